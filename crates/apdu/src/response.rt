@@ -1,0 +1,82 @@
+//! Responses.
+ghost use Rattle.std.specs.Prelude.{◌≡◌, ◌<◌, ◌≤◌, ◌+◌, ◌↔◌, length, IfOk, IsErrOf};
+ghost use Rattle.ep_base.specs.Apdu.{data_of, status_of};
+
+use crate::ApduFault;
+use arrayvec::ArrayVec;
+use std::marker::Model;
+
+/// A response of 2 to 258 bytes, data and a status word, seen as its bytes.
+#[derive(Drop)]
+pub struct Response {
+    bytes: ArrayVec<u8, 258>,
+}
+
+impl Model for Response {
+    ghost use Rattle.std.specs.Prelude.{List, ℕ, ◌≤◌, length};
+
+    ghost Value = { List ℕ };
+
+    ghost view = { λ r. r.bytes.items };
+
+    ghost invariant = { λ r. 2 ≤ length r.bytes.items };
+}
+
+impl Response {
+    /// The response that has these bytes.
+    ///
+    /// Errors: `Short` under 2 bytes, `TooLong` above 258.
+    pub fn of(bytes: &[u8]) -> Result<Response, ApduFault>
+        ensures ok { IfOk result (λ r. (r ≡ bytes.now) × (2 ≤ length bytes.now) × (length bytes.now ≤ 258)) }
+        ensures short { IsErrOf result ApduFault.Short ↔ (length bytes.now < 2) }
+        ensures long { IsErrOf result ApduFault.TooLong ↔ (258 < length bytes.now) }
+        ensures never { IsErrOf result ApduFault.LcWrong → ⊥ }
+    {
+        if bytes.len() < 2 {
+            return Err(ApduFault::Short);
+        }
+        match ArrayVec::try_from(bytes) {
+            Ok(bytes) => Ok(Response { bytes }),
+            Err(_) => Err(ApduFault::TooLong),
+        }
+    }
+
+    /// The response's bytes.
+    pub fn bytes(&self) -> &[u8]
+        ensures bytes { result.now ≡ self.now }
+        ensures least { 2 ≤ length self.now }
+        ensures most { length self.now ≤ 258 }
+    {
+        self.bytes.as_slice()
+    }
+
+    /// The bytes before the status word.
+    pub fn data(&self) -> &[u8]
+        ensures bytes { result.now ≡ data_of self.now }
+        ensures count { length result.now + 2 ≡ length self.now }
+        ensures most { length result.now ≤ 256 }
+    {
+        let bytes = self.bytes();
+        let (data, _) = bytes.split_at(bytes.len() - 2);
+        data
+    }
+
+    /// The status word, the first of its two bytes highest.
+    pub fn sw(&self) -> u16
+        ensures value { result ≡ status_of self.now }
+    {
+        let bytes = self.bytes();
+        let high = bytes[bytes.len() - 2];
+        let low = bytes[bytes.len() - 1];
+        u16::from(high) * 256 + u16::from(low)
+    }
+
+    /// The same response once more, which takes no memory.
+    pub fn copy(&self) -> Response
+        ensures { result ≡ self.now }
+    {
+        Response {
+            bytes: ArrayVec::try_from(self.bytes.as_slice()).unwrap(),
+        }
+    }
+}

@@ -1,0 +1,54 @@
+//! Lengths from outside, at both ends of each case.
+
+use crate::{ApduFault, Command, Response};
+
+fn fault_of_command(bytes: &[u8]) -> Option<ApduFault> {
+    Command::of(bytes).err()
+}
+
+#[test]
+fn commands_by_their_lengths(rt: HostRuntime) {
+    let long = [0u8; 262];
+    let cases: [(&[u8], Option<ApduFault>); 8] = [
+        (&[0x00, 0xa4, 0x04, 0x00], None),
+        (&[0x00, 0xb2, 0x01, 0x0c, 0x00], None),
+        (&[0x80, 0xa8, 0x00, 0x00, 0x02, 0x83, 0x00], None),
+        (&[0x80, 0xa8, 0x00, 0x00, 0x02, 0x83, 0x00, 0x00], None),
+        (&[0x00, 0xa4, 0x04], Some(ApduFault::Short)),
+        (
+            &[0x00, 0xa4, 0x04, 0x00, 0x02, 0x01],
+            Some(ApduFault::LcWrong),
+        ),
+        (
+            &[0x00, 0xa4, 0x04, 0x00, 0x00, 0x01],
+            Some(ApduFault::LcWrong),
+        ),
+        (&long, Some(ApduFault::TooLong)),
+    ];
+    for (bytes, wanted) in cases {
+        assert_eq!(rt; fault_of_command(bytes), wanted, "at {bytes:?}");
+    }
+}
+
+#[test]
+fn responses_by_their_lengths(rt: HostRuntime) {
+    let long = [0u8; 259];
+    let cases: [(&[u8], Option<ApduFault>); 4] = [
+        (&[0x90, 0x00], None),
+        (&long[..258], None),
+        (&[0x90], Some(ApduFault::Short)),
+        (&long, Some(ApduFault::TooLong)),
+    ];
+    for (bytes, wanted) in cases {
+        assert_eq!(rt; Response::of(bytes).err(), wanted, "at {bytes:?}");
+    }
+}
+
+#[test]
+fn select_of_the_payment_directory(rt: HostRuntime) {
+    let command = Command::select(b"2PAY.SYS.DDF01");
+    assert_eq!(rt;
+        command.bytes(),
+        b"\x00\xa4\x04\x00\x0e2PAY.SYS.DDF01\x00".as_slice()
+    );
+}

@@ -1,0 +1,5 @@
+pub mod Fault
+pub mod Order
+pub mod Path
+pub mod Read
+pub mod Section

@@ -1,0 +1,19 @@
+-- What the source and the sink in memory show (this project's own).
+use Rattle.std.specs.Prelude.{ℕ, ◌+◌, ◌-◌, ◌^◌, ◌||◌, min, nat_eq, nat_lt, Bool, List, drop, length}
+use Rattle.std.specs.List.{list_any}
+use Rattle.ep_base.specs.declared.memory.MemorySource.{MemorySource}
+use Rattle.ep_base.specs.declared.memory.MemorySink.{MemorySink}
+
+abbrev pub bytes_left : MemorySource → List ℕ
+bytes_left s = drop s.at s.bytes.items
+
+abbrev pub bytes_held : MemorySink → List ℕ
+bytes_held s = s.held.items
+
+-- The call after so many is among these.
+abbrev pub is_listed : List ℕ → ℕ → Bool
+is_listed fails calls = list_any (λ k. nat_eq k (min (calls + 1) (2 ^ 32 - 1))) fails
+
+-- The next push of so many bytes is listed, or the room doesn't hold them.
+abbrev pub sink_refuses : MemorySink → ℕ → Bool
+sink_refuses s count = is_listed s.fails.items s.calls || nat_lt (s.room - length s.held.items) count

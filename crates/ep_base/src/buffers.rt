@@ -1,0 +1,36 @@
+//! Buffers of fixed size, and the sizes of frames.
+ghost use Rattle.std.specs.Prelude.{◌≡◌, ◌<◌, ◌≤◌};
+ghost use Rattle.ep_base.specs.FrameSize.{frame_size};
+
+use arrayvec::{ArrayString, ArrayVec};
+
+/// A buffer of at most `N` bytes.
+pub type Buf<const N: usize> = ArrayVec<u8, N>;
+
+/// The bytes of one frame, its check bytes among them.
+pub type FrameBuf = Buf<256>;
+
+/// One line of output with its newline.
+pub type Line = ArrayString<1200>;
+
+/// The frame size of a code, in bytes, the prologue and the check bytes among them (ISO/IEC 14443-4; that codes 9 to
+/// 15 count as 256 is this project's profile).
+#[tactic(auto, unfolding(crate::specs::FrameSize::frame_size))]
+pub fn frame_size(code: u8) -> u16
+    requires { code < 16 }
+    ensures size { result ≡ frame_size code }
+    ensures least { 16 ≤ result }
+    ensures most { result ≤ 256 }
+{
+    if code < 5 {
+        16 + 8 * u16::from(code)
+    } else if code == 5 {
+        64
+    } else if code == 6 {
+        96
+    } else if code == 7 {
+        128
+    } else {
+        256
+    }
+}

@@ -1,0 +1,22 @@
+//! What every other crate stands on: bytes that come in and go out, the buffers and words that several crates
+//! share, and, in `specs/`, the definitions that the contracts of the whole repository cite.
+#![tactic(auto)]
+
+mod air;
+mod buffers;
+mod memory;
+mod objects;
+mod outcome;
+mod standard;
+mod streams;
+
+pub use air::{CardKind, Wave};
+pub use buffers::{Buf, FrameBuf, Line, frame_size};
+pub use memory::{MemorySink, MemorySource};
+pub use objects::{Node, TlvFault};
+pub use outcome::{Message, OutcomeKind};
+pub use standard::{StdSink, StdSource};
+pub use streams::{NoMemory, Pulled, ReadEnd, Sink, SinkFailed, Source, push_all, read_all};
+
+#[cfg(test)]
+mod tests;

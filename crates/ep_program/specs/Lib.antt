@@ -1,0 +1,5 @@
+pub mod Headline
+pub mod Lines
+pub mod Purchase
+pub mod Serve
+pub mod Status

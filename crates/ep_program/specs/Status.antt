@@ -1,0 +1,27 @@
+-- The numbers and the texts of the ways in which the program ends (this project's own).
+use Rattle.std.specs.Prelude.{ℕ, List, [], ⊤}
+use Rattle.ep_base.specs.FaultText.{read_fault, write_fault, no_memory, usage, too_long, not_toml}
+use Rattle.report_text.specs.FaultWords.{document_fault}
+use Rattle.ep_program.specs.declared.status.Status.{Status}
+use Rattle.ep_program.specs.declared.status.Status.TheVariants.{Done, ReadFault, WriteFault, NoMemory, Usage, TooLong, NotToml, BadDocument}
+
+abbrev pub number_of : Status → ℕ
+number_of Done = 0
+number_of ReadFault = 1
+number_of WriteFault = 2
+number_of NoMemory = 3
+number_of Usage = 4
+number_of TooLong = 5
+number_of NotToml = 6
+number_of (BadDocument f) = 7
+
+-- The text of a status; Done has none.
+abbrev pub fault_text_of : Status → List ℕ
+fault_text_of Done = []
+fault_text_of ReadFault = read_fault
+fault_text_of WriteFault = write_fault
+fault_text_of NoMemory = no_memory
+fault_text_of Usage = usage
+fault_text_of TooLong = too_long
+fault_text_of NotToml = not_toml
+fault_text_of (BadDocument f) = document_fault f

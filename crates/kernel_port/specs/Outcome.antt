@@ -1,0 +1,6 @@
+-- What an outcome stands for in plain data.
+use Rattle.ep_base.specs.Said.{Verdict}
+use Rattle.kernel_port.specs.declared.outcome.Outcome.{Outcome}
+
+abbrev pub verdict_of : Outcome → Verdict
+verdict_of o = record { kind = o.kind; message = o.message }

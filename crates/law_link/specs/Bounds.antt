@@ -1,0 +1,74 @@
+-- How long a command takes, whatever the reader hears.
+use Rattle.std.specs.Prelude.{◌≡◌, ℕ, ◌+◌, ◌*◌, ◌≤◌, Bool, List, [], ◌∷◌, length, if◌then◌else◌}
+use Rattle.ep_base.specs.Block.{Heard, is_bad, same, count}
+use Rattle.ep_base.specs.ReaderEnd.{Reader, Turn, Asks, Gives, Spends, Breaks, reader_hears, begin}
+use Rattle.ep_base.specs.CardEnd.{Image, Card}
+use Rattle.ep_base.specs.Link.{Frames, Fate, End, Open, Done, Spent, Breach, run}
+
+-- The reader after these hearings, until a command ends.
+abbrev pub after_all : ℕ → List Heard → Turn → Turn
+after_all frame [] t = t
+after_all frame (h ∷ hs) (Asks r) = after_all frame hs (reader_hears frame r h)
+after_all frame (h ∷ hs) (Gives response r) = Gives response r
+after_all frame (h ∷ hs) (Spends r) = Spends r
+after_all frame (h ∷ hs) (Breaks r) = Breaks r
+
+-- At most 20 hearings without a toggle while it asks; the link is spent exactly at the third bad one.
+abbrev pub IsBounded : Turn → Type 0
+IsBounded (Asks r) = (length r.since ≤ 20) × (count is_bad r.since ≤ 2)
+IsBounded (Gives response r) = r.since ≡ []
+IsBounded (Spends r) = (length r.since ≤ 21) × (count is_bad r.since ≡ 3)
+IsBounded (Breaks r) = length r.since ≤ 20
+
+abbrev pub IsEnded : Turn → Type 0
+IsEnded (Asks r) = ⊥
+IsEnded (Gives response r) = Unit {0}
+IsEnded (Spends r) = Unit {0}
+IsEnded (Breaks r) = Unit {0}
+
+abbrev pub IsOver : End → Type 0
+IsOver (Open r card) = ⊥
+IsOver (Done response r card fates) = Unit {0}
+IsOver (Spent r card) = Unit {0}
+IsOver (Breach r card) = Unit {0}
+
+-- Whatever is heard, at most 21 exchanges lie between two toggles.
+abbrev pub BoundedToggles : Type 0
+BoundedToggles = (card_frame frame : ℕ) (command : List ℕ) (r : Reader) (hearings : List Heard) → r.since ≡ [] →
+    IsBounded (after_all frame hearings (Asks (begin card_frame command r)))
+
+-- And a command ends.
+abbrev pub CommandEnds : Type 0
+CommandEnds = (card_frame frame : ℕ) (command : List ℕ) (r : Reader) (hearings : List Heard) → r.since ≡ [] →
+    16 ≤ card_frame → length command ≤ 261 → 279 * 21 ≤ length hearings →
+    IsEnded (after_all frame hearings (Asks (begin card_frame command r)))
+
+-- On a link too.
+abbrev pub LinkEnds : Type 0
+LinkEnds = (frames : Frames) (image : Image) (fates : List Fate) (r : Reader) (card : Card) (command : List ℕ) → r.since ≡ [] →
+    16 ≤ frames.card → length command ≤ 261 → 279 * 21 ≤ length fates →
+    IsOver (run frames image fates (begin frames.card command r) card)
+
+-- One where the number changes from one turn to the next.
+abbrev pub toggle_of : Bool → Bool → ℕ
+toggle_of old now = if same now old then 0 else 1
+
+abbrev pub toggle : Reader → Turn → ℕ
+toggle old (Asks r) = toggle_of old.number r.number
+toggle old (Gives response r) = toggle_of old.number r.number
+toggle old (Spends r) = 0
+toggle old (Breaks r) = 0
+
+-- How often the reader toggles over these hearings, until a command ends.
+abbrev pub toggles_in : ℕ → List Heard → Turn → ℕ
+toggles_in frame [] t = 0
+toggles_in frame (h ∷ hs) (Asks r) = toggle r (reader_hears frame r h) + toggles_in frame hs (reader_hears frame r h)
+toggles_in frame (h ∷ hs) (Gives response r) = 0
+toggles_in frame (h ∷ hs) (Spends r) = 0
+toggles_in frame (h ∷ hs) (Breaks r) = 0
+
+-- A command takes at most 279 toggles.
+abbrev pub FewToggles : Type 0
+FewToggles = (card_frame frame : ℕ) (command : List ℕ) (r : Reader) (hearings : List Heard) → r.since ≡ [] →
+    16 ≤ card_frame → length command ≤ 261 →
+    toggles_in frame hearings (Asks (begin card_frame command r)) ≤ 279

@@ -1,0 +1,100 @@
+-- Exactly once over one link.
+use Rattle.std.specs.Prelude.{◌≡◌, ◌⊎◌, ℕ, suc, ◌*◌, ◌≤◌, Bool, true, not, cond, if◌then◌else◌, List, [], ◌∷◌, ◌++◌, length}
+use Rattle.ep_base.specs.Block.{other, is_bad, count}
+use Rattle.ep_base.specs.ReaderEnd.{Reader, Idle, begin}
+use Rattle.ep_base.specs.CardEnd.{Image, Card, Parts}
+use Rattle.ep_base.specs.Link.{Frames, Fate, End, Open, Done, Spent, Breach, run, Served, serve}
+
+-- An image's commands have at most 261 bytes, its responses 2 to 258, and at most eight S(WTX) come before one.
+pub record IsImage (image : Image) : Type 0 where
+  pub commands : (command : List ℕ) → image.is_command command ≡ true → length command ≤ 261
+  pub responses : (log : List (List ℕ)) → (2 ≤ length (image.answer log).response) × (length (image.answer log).response ≤ 258)
+  pub waits : (log : List (List ℕ)) → (image.answer log).wtx ≤ 8
+
+-- No frame is shorter than 16 bytes.
+pub record AreFrames (frames : Frames) : Type 0 where
+  pub card : 16 ≤ frames.card
+  pub reader : 16 ≤ frames.reader
+
+-- Between two commands the numbers differ, and nothing is left of the last one.
+pub record IsIdle (r : Reader) (card : Card) : Type 0 where
+  pub differ : r.number ≡ other card.number
+  pub closed : r.phase ≡ Idle
+  pub fresh : r.since ≡ []
+  pub none_taken : card.taken ≡ []
+  pub none_left : card.left ≡ Parts []
+
+-- How a command may end, from the executions before it; the first case is every moment before its end.
+abbrev pub ExactlyOnce : Image → List (List ℕ) → List ℕ → End → Type 0
+ExactlyOnce image before command (Open r card) = (card.log ≡ before) ⊎ (card.log ≡ before ++ command ∷ [])
+ExactlyOnce image before command (Done response r card fates) =
+    (response ≡ (image.answer (before ++ command ∷ [])).response) × (card.log ≡ before ++ command ∷ []) × IsIdle r card
+ExactlyOnce image before command (Spent r card) =
+    (count is_bad r.since ≡ 3) × ((card.log ≡ before) ⊎ (card.log ≡ before ++ command ∷ []))
+ExactlyOnce image before command (Breach r card) = ⊥
+
+-- Whatever becomes of the frames.
+abbrev pub OneCommand : Type 0
+OneCommand = (frames : Frames) (image : Image) (fates : List Fate) (r : Reader) (card : Card) (command : List ℕ) →
+    AreFrames frames → IsImage image → IsIdle r card → image.is_command command ≡ true →
+    ExactlyOnce image card.log command (run frames image fates (begin frames.card command r) card)
+
+-- The responses over a channel that loses nothing.
+abbrev pub perfect_responses : Image → List (List ℕ) → List (List ℕ) → List (List ℕ)
+perfect_responses image before [] = []
+perfect_responses image before (command ∷ commands) =
+    (image.answer (before ++ command ∷ [])).response ∷ perfect_responses image (before ++ command ∷ []) commands
+
+abbrev pub AllCommands : Image → List (List ℕ) → Type 0
+AllCommands image [] = Unit {0}
+AllCommands image (command ∷ commands) = (image.is_command command ≡ true) × AllCommands image commands
+
+-- The end of a link after these executions, with these commands without a response. It is open where the fates ran out within a command.
+abbrev pub EndsOnce : List (List ℕ) → List (List ℕ) → End → Type 0
+EndsOnce executed left (Done response r card fates) = (left ≡ []) × (card.log ≡ executed) × IsIdle r card
+EndsOnce executed [] (Spent r card) = ⊥
+EndsOnce executed (command ∷ left) (Spent r card) = (count is_bad r.since ≡ 3) × ((card.log ≡ executed) ⊎ (card.log ≡ executed ++ command ∷ []))
+EndsOnce executed [] (Open r card) = ⊥
+EndsOnce executed (command ∷ left) (Open r card) = (card.log ≡ executed) ⊎ (card.log ≡ executed ++ command ∷ [])
+EndsOnce executed left (Breach r card) = ⊥
+
+-- How a list of commands may end on a link: a first part of them is answered as over a perfect channel and each of it was executed once; the
+-- next command, where there is one, was executed at most once.
+abbrev pub EachOnce : Image → List (List ℕ) → List (List ℕ) → Served → Type 0
+EachOnce image before commands s =
+    (done : List (List ℕ)) × (left : List (List ℕ)) × (done ++ left ≡ commands) × (s.responses ≡ perfect_responses image before done)
+    × EndsOnce (before ++ done) left s.end
+
+-- One command after another, whatever becomes of the frames.
+abbrev pub Session : Type 0
+Session = (frames : Frames) (image : Image) (commands : List (List ℕ)) (fates : List Fate) (r : Reader) (card : Card) →
+    AreFrames frames → IsImage image → IsIdle r card → AllCommands image commands →
+    EachOnce image card.log commands (serve frames image commands fates r card)
+
+-- How many exchanges lose a frame.
+abbrev pub is_loss : Fate → Bool
+is_loss f = if f.down then not f.up else true
+
+abbrev pub losses : List Fate → ℕ
+losses [] = 0
+losses (f ∷ fates) = cond (is_loss f) (suc (losses fates)) (losses fates)
+
+-- Neither spent nor broken.
+abbrev pub IsSafe : End → Type 0
+IsSafe (Open r card) = Unit {0}
+IsSafe (Done response r card fates) = Unit {0}
+IsSafe (Spent r card) = ⊥
+IsSafe (Breach r card) = ⊥
+
+abbrev pub IsAnswered : End → Type 0
+IsAnswered (Open r card) = ⊥
+IsAnswered (Done response r card fates) = Unit {0}
+IsAnswered (Spent r card) = ⊥
+IsAnswered (Breach r card) = ⊥
+
+-- Where two frames are lost at most, and there is time for it, a command is answered.
+abbrev pub FewLosses : Type 0
+FewLosses = (frames : Frames) (image : Image) (fates : List Fate) (r : Reader) (card : Card) (command : List ℕ) →
+    AreFrames frames → IsImage image → IsIdle r card → image.is_command command ≡ true →
+    losses fates ≤ 2 → 279 * 21 ≤ length fates →
+    IsAnswered (run frames image fates (begin frames.card command r) card)

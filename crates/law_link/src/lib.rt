@@ -1,0 +1,45 @@
+//! Laws of one open link between the reader's end and a card's end, each the contract of a function that does
+//! nothing: whatever frames are lost, a command is executed once, and no link stays open for ever.
+//!
+//! The ends of the link, its fates and its exchanges are defined in `ep_base`; `specs/` states the laws.
+#![tactic(auto)]
+
+ghost use Rattle.law_link.specs.Bounds.{BoundedToggles, CommandEnds, FewToggles, LinkEnds};
+ghost use Rattle.law_link.specs.ByEvents.{OnceByEvents};
+ghost use Rattle.law_link.specs.Once.{FewLosses, OneCommand, Session};
+
+/// Whatever frames are lost, a command is answered with its image's response and was executed once; or three
+/// exchanges were bad since the reader's last toggle, and it was executed at most once. At every moment before its
+/// end it was executed at most once. No block is ever outside the rules.
+///
+/// The image's commands have at most 261 bytes, its responses 2 to 258, and at most eight S(WTX) come before one;
+/// frames have at least 16 bytes; the link is between two commands.
+pub fn one_command()
+    ensures { OneCommand }
+{}
+
+/// The same of a list of commands on one link: a first part of them is answered as over a perfect channel, each
+/// executed once, and the next command, where the link failed, was executed at most once.
+pub fn session()
+    ensures { Session }
+{}
+
+/// The same of the reader's end as a function of all that happened since the link was opened.
+pub fn once_by_events()
+    ensures { OnceByEvents }
+{}
+
+/// Whatever the reader hears, and from whatever card: at most 21 exchanges lead from one toggle of its block number
+/// to the next; the link is spent exactly at the third bad hearing since the toggle; a command takes at most 279
+/// toggles; and 279 times 21 exchanges always end it.
+pub fn bounds()
+    ensures between { BoundedToggles }
+    ensures toggles { FewToggles }
+    ensures ends { CommandEnds }
+    ensures link { LinkEnds }
+{}
+
+/// Where at most two frames of a command are lost, and there are exchanges enough, it is answered.
+pub fn few_losses()
+    ensures { FewLosses }
+{}

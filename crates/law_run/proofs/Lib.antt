@@ -1,0 +1,10 @@
+pub mod Answering
+pub mod Bounding
+pub mod Entries
+pub mod Hearing
+pub mod Legal
+pub mod Picking
+pub mod Playing
+pub mod Scripting
+pub mod Starting
+pub mod Whole

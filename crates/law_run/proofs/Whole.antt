@@ -1,0 +1,50 @@
+-- A transaction over the perfect channel is its perfect run.
+use Rattle.std.proofs.Common.{◌≡◌, ℕ, ◌+◌, ◌≤◌, true, false, List, length, refl}
+use Rattle.ep_base.specs.PreProcessing.{Ready}
+use Rattle.ep_base.specs.CardAnswer.{Image}
+use Rattle.ep_base.specs.Kernel.{Move, Send, Done, KernelSteps}
+use Rattle.ep_base.specs.KernelCounts.{FallingCounts}
+use Rattle.ep_base.specs.Talk.{IsLegal}
+use Rattle.ep_base.specs.EntryPoint.{transaction}
+use Rattle.ep_base.specs.Transport.{EventSteps}
+use Rattle.ep_base.specs.Direct.{Direct}
+use Rattle.law_run.specs.Bounds.{log_bound}
+use Rattle.law_run.specs.Legality.{IsSent, SendsOnly, SelectsPass}
+use Rattle.law_run.specs.ShortAnswers.{IsShortImage}
+use Rattle.law_run.specs.OverPerfect.{Carries, TransactionOverPerfect}
+use Rattle.law_run.proofs.Bounding.{starts_more, few_commands_lem, few_starts_lem}
+use Rattle.law_run.proofs.Legal.{legality_lem}
+use Rattle.law_run.proofs.Playing.{perfect_lem}
+
+any_sent : (move : Move) → IsSent (λ command. true) move
+any_sent (Send command) = refl
+any_sent (Done verdict) = tt
+
+module _ {S : Type 0} (k : KernelSteps S) where
+  -- Each of its commands comes after a card was found, and before it is closed.
+  pub transaction_legal : (txn_type amount : ℕ) (ones : List Ready) (s : S) → IsLegal (λ command. true) false (transaction k txn_type amount ones s)
+  transaction_legal txn_type amount ones s =
+      let sent : SendsOnly (λ command. true) (λ (s : S). true) k = record {
+        begin_good = λ s g h. refl;
+        step_good = λ s last h. refl;
+        sends = λ s last h. any_sent (k.step s last).0;
+      } in
+      let passes : SelectsPass (λ command. true) = record { directory = refl; names = λ name five sixteen. refl } in
+      legality_lem k (λ command. true) (λ (s : S). true) sent passes txn_type amount ones s refl
+
+  pub transaction_carries : FallingCounts k → (txn_type amount : ℕ) (ones : List Ready) (s : S) (d : Direct) (images : ℕ → Image) (ends : ℕ)
+      → length d.log + log_bound (k.restarts s) (length ones) (k.commands s) ≤ d.room → 1 + k.restarts s ≤ ends → images d.image.number ≡ d.image → IsShortImage d.image
+      → Carries (transaction k txn_type amount ones s) d images ends
+  transaction_carries falls txn_type amount ones s d images ends room enough image short = record {
+    legal = transaction_legal txn_type amount ones s;
+    commands = log_bound (k.restarts s) (length ones) (k.commands s);
+    most = few_commands_lem k falls txn_type amount ones s;
+    room = room;
+    enough = starts_more (transaction k txn_type amount ones s) (1 + k.restarts s) ends enough (few_starts_lem k txn_type amount ones s);
+    image = image;
+    short = short;
+  }
+
+  pub transaction_perfect_lem : {E : Type 0} (events : EventSteps E) → TransactionOverPerfect k events
+  transaction_perfect_lem events falls txn_type amount ones s d images ends e left room enough image short runs =
+      perfect_lem events (transaction k txn_type amount ones s) d images ends e left (transaction_carries falls txn_type amount ones s d images ends room enough image short) runs

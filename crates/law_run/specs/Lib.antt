@@ -1,0 +1,8 @@
+pub mod Bounds
+pub mod CandidateFacts
+pub mod Heard
+pub mod Legality
+pub mod OverPerfect
+pub mod ScriptCounts
+pub mod ShortAnswers
+pub mod StartB

@@ -1,0 +1,16 @@
+pub mod Agreeing
+pub mod Coming
+pub mod Documents
+pub mod Growing
+pub mod Imaging
+pub mod Keeping
+pub mod Lanes
+pub mod Lawful
+pub mod Mute
+pub mod Mutes
+pub mod Naming
+pub mod Pacing
+pub mod Passing
+pub mod Talking
+pub mod Thirds
+pub mod Worked

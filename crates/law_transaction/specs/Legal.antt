@@ -1,0 +1,53 @@
+-- Talks that send commands alone, and these to a card that was found and not closed.
+use Rattle.std.specs.Prelude.{◌≡◌, ℕ, true, false, List, [], ◌∷◌, Some, None}
+use Rattle.std.specs.declared.option.Option.{Option}
+use Rattle.ep_base.specs.Apdu.{is_command}
+use Rattle.ep_base.specs.PreProcessing.{Ready}
+use Rattle.ep_base.specs.Said.{Given}
+use Rattle.ep_base.specs.Kernel.{Move, Send, Done, KernelSteps, Step, Script, Running, Scripted, scripted}
+use Rattle.ep_base.specs.Talk.{IsLegal}
+use Rattle.ep_base.specs.EntryPoint.{transaction}
+
+-- What a kernel sends is a command.
+abbrev pub IsSent : Move → Type 0
+IsSent (Send command) = is_command command ≡ true
+IsSent (Done verdict) = Unit {0}
+
+-- A kernel is begun, or takes a step.
+pub data Call : Type 0 where
+  Begins : (given : Given) → Call
+  Steps : (last : Option (List ℕ)) → Call
+
+-- Its state after these calls.
+abbrev pub called : {S : Type 0} → KernelSteps S → S → List Call → S
+called k s [] = s
+called k s ((Begins given) ∷ calls) = called k (k.begin s given) calls
+called k s ((Steps last) ∷ calls) = called k (k.step s last).1 calls
+
+-- From this state on, after whatever calls, what it sends is a command.
+abbrev pub SendsCommands : {S : Type 0} → KernelSteps S → S → Type 0
+SendsCommands k s = (calls : List Call) (last : Option (List ℕ)) → IsSent (k.step (called k s calls) last).0
+
+-- Then the transaction of Entry Point with this kernel is a legal talk.
+abbrev pub Legal : {S : Type 0} → KernelSteps S → Type 0
+Legal k = (txn_type amount : ℕ) (ones : List Ready) (s : _) → SendsCommands k s → IsLegal is_command false (transaction k txn_type amount ones s)
+
+-- The steps of these scripts send commands.
+abbrev pub StepsSend : List Step → Type 0
+StepsSend [] = Unit {0}
+StepsSend (x ∷ steps) = (is_command x.send ≡ true) × StepsSend steps
+
+abbrev pub ScriptsSend : List Script → Type 0
+ScriptsSend [] = Unit {0}
+ScriptsSend (s ∷ scripts) = StepsSend s.steps × ScriptsSend scripts
+
+abbrev pub RunningSends : Option Running → Type 0
+RunningSends None = Unit {0}
+RunningSends (Some r) = StepsSend r.steps
+
+abbrev pub ScriptedSends : Scripted → Type 0
+ScriptedSends s = ScriptsSend s.scripts × RunningSends s.running
+
+-- Then the transaction with kernels that follow them is a legal talk.
+abbrev pub ScriptedLegal : Type 0
+ScriptedLegal = (txn_type amount : ℕ) (ones : List Ready) (s : Scripted) → ScriptedSends s → IsLegal is_command false (transaction scripted txn_type amount ones s)

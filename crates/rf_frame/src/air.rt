@@ -1,0 +1,131 @@
+//! What is asked and heard in one exchange.
+ghost use Rattle.std.specs.Prelude.{◌≡◌};
+ghost use Rattle.ep_base.specs.Hearing.{is_silent as silent};
+ghost use Rattle.rf_frame.specs.Meaning.{heard_of};
+
+use crate::copy_frame;
+use ep_base::{FrameBuf, Wave};
+use std::marker::Model;
+
+/// What is heard in one exchange.
+#[derive(Debug, PartialEq, Eq, Drop)]
+pub enum Heard {
+    /// Nothing.
+    Silence,
+    /// Something that is no frame.
+    Noise,
+    /// Different answers at the same time.
+    Overlap,
+    /// One frame, damaged or not.
+    Frame {
+        /// How it was sent.
+        wave: Wave,
+        /// All its bytes, the check bytes among them.
+        bytes: FrameBuf,
+    },
+}
+
+impl Default for Heard {
+    ghost use Rattle.rf_frame.specs.declared.air.Heard.TheVariants as variants;
+
+    ghost is_default = { λ h. h ≡ variants.Silence };
+
+    fn default() -> Heard {
+        Heard::Silence
+    }
+}
+
+impl Heard {
+    /// Whether nothing was heard. Noise and overlapping answers are something.
+    pub fn is_silent(&self) -> bool
+        ensures { result ≡ silent (heard_of self.now) }
+    {
+        match self {
+            Heard::Silence => true,
+            Heard::Noise | Heard::Overlap | Heard::Frame { .. } => false,
+        }
+    }
+
+    /// The same again. This takes no memory.
+    pub fn copy(&self) -> Heard
+        ensures { result ≡ self.now }
+    {
+        match self {
+            Heard::Silence => Heard::Silence,
+            Heard::Noise => Heard::Noise,
+            Heard::Overlap => Heard::Overlap,
+            Heard::Frame { wave, bytes } => Heard::Frame {
+                wave: *wave,
+                bytes: copy_frame(bytes),
+            },
+        }
+    }
+}
+
+/// What is asked in one exchange.
+#[derive(Debug, PartialEq, Eq, Drop)]
+pub struct Ask {
+    /// Whether the field is reset before.
+    pub reset: bool,
+    /// How the frame is sent.
+    pub wave: Wave,
+    /// All bytes of the frame, the check bytes among them.
+    pub frame: FrameBuf,
+    /// The waiting number of the block, and 0 for a frame outside the block protocol (ISO/IEC 14443-4).
+    pub wait: u32,
+}
+
+impl Model for Ask {
+    ghost use Rattle.ep_base.specs.Hearing.{Asked};
+
+    ghost Value = { Asked };
+
+    ghost view = { λ a. record { reset = a.reset; wave = a.wave; bytes = a.frame.items; wait = a.wait } };
+
+    ghost inverse = { λ a. record { reset = a.reset; wave = a.wave; frame = record { items = a.bytes }; wait = a.wait } };
+}
+
+impl Ask {
+    /// The same again. This takes no memory.
+    pub fn copy(&self) -> Ask
+        ensures { result ≡ self.now }
+    {
+        Ask {
+            reset: self.reset,
+            wave: self.wave,
+            frame: copy_frame(&self.frame),
+            wait: self.wait,
+        }
+    }
+}
+
+/// A frame that a card sends.
+#[derive(Debug, PartialEq, Eq, Drop)]
+pub struct Sent {
+    /// How it is sent.
+    pub wave: Wave,
+    /// All its bytes, the check bytes among them.
+    pub frame: FrameBuf,
+}
+
+impl Model for Sent {
+    ghost use Rattle.ep_base.specs.Hearing.{Framed};
+
+    ghost Value = { Framed };
+
+    ghost view = { λ s. record { wave = s.wave; bytes = s.frame.items } };
+
+    ghost inverse = { λ f. record { wave = f.wave; frame = record { items = f.bytes } } };
+}
+
+impl Sent {
+    /// The same again. This takes no memory.
+    pub fn copy(&self) -> Sent
+        ensures { result ≡ self.now }
+    {
+        Sent {
+            wave: self.wave,
+            frame: copy_frame(&self.frame),
+        }
+    }
+}

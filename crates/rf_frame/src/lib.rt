@@ -1,0 +1,25 @@
+//! Frames of ISO/IEC 14443-3 as they go through the air: their check bytes, bursts that damage them, what is asked
+//! and heard, and the medium through which a reader and its cards speak.
+#![tactic(auto)]
+
+mod air;
+mod bursts;
+mod cards;
+mod checks;
+mod frames;
+mod laws;
+mod medium;
+mod messages;
+
+pub use air::{Ask, Heard, Sent};
+pub use bursts::{Burst, burst_seen, flip};
+pub use cards::{Activated, CardHear, RoundEnd};
+pub use checks::check;
+pub use ep_base::{Buf, CardKind, FrameBuf, Wave};
+pub use frames::{copy_frame, good, open_frame, seal};
+pub use laws::{damage_is_seen, hits_where_it_falls, missed_is_same, sealed_is_opened};
+pub use medium::{Medium, RfFailed, exchange};
+pub use messages::{answer_in, ask_message, sent_message};
+
+#[cfg(test)]
+mod tests;

@@ -1,0 +1,50 @@
+-- Scripts of kernels, and their tables (this project's own).
+use Rattle.std.specs.Prelude.{codes, ℕ, ◌+◌, ◌*◌, ◌≤◌, List, [], ◌∷◌, length, slice_index, All, None, Result, Ok}
+use Rattle.ep_base.specs.declared.outcome.OutcomeKind.TheVariants.{EndApplication}
+use Rattle.ep_base.specs.Apdu.{is_command}
+use Rattle.ep_base.specs.Kernel.{Step, Script, no_verdict}
+use Rattle.doc_table.specs.Fault.{Fault}
+use Rattle.doc_table.specs.declared.list.ElementKind.TheVariants as elements
+use Rattle.doc_table.specs.Read.{◌>>=◌, Reader, Place, table_of, required, defaulted, integer_in, byte_text, bytes_that, list_of}
+use Rattle.scenario.specs.Outcomes.{outcome_text}
+
+abbrev pub step_keys : List (List ℕ)
+step_keys = codes "send" ∷ codes "want" ∷ codes "other" ∷ []
+
+-- A status word, its first byte highest.
+abbrev pub status_number : List ℕ → ℕ
+status_number bytes = 256 * slice_index bytes 0 + slice_index bytes 1
+
+unfoldable pub step_at : Place → Result Step Fault
+step_at place = do
+  send ← required (bytes_that is_command) (codes "send") place
+  want ← defaulted (0x90 ∷ 0x00 ∷ []) (byte_text 2 2) (codes "want") place
+  other ← defaulted no_verdict outcome_text (codes "other") place
+  Ok (record { send = send; want = status_number want; other = other })
+
+-- A step's table.
+abbrev pub step : Reader Step
+step path d = do
+  place ← table_of step_keys path d
+  step_at place
+
+abbrev pub script_keys : List (List ℕ)
+script_keys = codes "kernel" ∷ codes "steps" ∷ codes "outcome" ∷ []
+
+unfoldable pub script_at : Place → Result Script Fault
+script_at place = do
+  kernel ← required (integer_in 1 16777215) (codes "kernel") place
+  steps ← defaulted [] (list_of elements.Table 0 16 step) (codes "steps") place
+  verdict ← required outcome_text (codes "outcome") place
+  Ok (record { kernel = kernel; steps = steps; verdict = verdict })
+
+-- A script's table.
+abbrev pub script : Reader Script
+script path d = do
+  place ← table_of script_keys path d
+  script_at place
+
+-- At most four scripts of at most 16 steps (this project's profile).
+pub record AreScripts (scripts : List Script) : Type 0 where
+  pub few : length scripts ≤ 4
+  pub short : All (λ (s : Script). length s.steps ≤ 16) scripts

@@ -1,0 +1,101 @@
+//! The entries that can be candidates.
+ghost use Rattle.std.specs.Prelude.{◌≡◌, ◌<◌, ◌≤◌, ◌+◌, ◌++◌, ◌==◌, true, map, length, IfSome};
+ghost use Rattle.std.specs.Option.{option_map};
+ghost use Rattle.arrayvec.specs.ArrayVec.{array_vec_len};
+ghost use Rattle.ep_base.specs.Directory.{Entry, is_named, entry_held};
+ghost use Rattle.ep_base.specs.Candidates.{fits, pairs_of};
+ghost use Rattle.select_rules.specs.Offer.{name_of, OfferOf, Offers, most_pairs};
+ghost use Rattle.select_rules.specs.Order.{ranked_of};
+
+use crate::entry::{priority_key, requested_kernel};
+use crate::pair::Ranked;
+use arrayvec::ArrayVec;
+use ppse::{ADF_NAME, APPLICATION_PRIORITY, KERNEL_IDENTIFIER, entry_value};
+use pre_processing::PreparedOne;
+use tlv_arena::Arena;
+
+/// The most candidates: 28 entries with 16 Combinations.
+pub(crate) const MOST: usize = 448;
+
+// An entry that can be a candidate: its ADF Name has 5 to 16 bytes, and its 9F2A doesn't skip it.
+#[derive(Clone, Copy)]
+pub(crate) struct Offer<'a> {
+    name: &'a [u8],
+    priority: u8,
+    kernel: u32,
+}
+
+// The ADF Name of an entry, where it has 5 to 16 bytes.
+pub(crate) fn name(arena: &Arena, entry: u16) -> Option<&[u8]>
+    ensures value { option_map (λ v. v.now) result ≡ name_of (entry_held entry arena.now.objects) }
+    ensures short { IfSome result (λ v. length v.now ≤ 16) }
+{
+    let name = entry_value(arena, entry, ADF_NAME)?;
+    if name.len() < 5 || name.len() > 16 {
+        return None;
+    }
+    Some(name)
+}
+
+// What selection needs of an entry, if the entry can be a candidate.
+pub(crate) fn offer_of(arena: &Arena, entry: u16) -> Option<Offer<'_>>
+    ensures { Offers (entry_held entry arena.now.objects) result }
+{
+    let name = name(arena, entry)?;
+    let kernel = requested_kernel(name, entry_value(arena, entry, KERNEL_IDENTIFIER))?;
+    Some(Offer {
+        name,
+        priority: priority_key(entry_value(arena, entry, APPLICATION_PRIORITY)),
+        kernel,
+    })
+}
+
+// Whether an entry and a Combination are a candidate.
+fn fits(offer: &Offer, one: &PreparedOne) -> bool
+    ensures { (e : Entry) → OfferOf e offer.now → result ≡ fits e one.now }
+{
+    let combination = &one.combination;
+    one.is_allowed()
+        && offer.name.starts_with(combination.aid.as_slice())
+        && (offer.kernel == 0 || offer.kernel == combination.kernel)
+}
+
+// Adds the pairs of an entry and the Combinations that fit it.
+pub(crate) fn add_pairs(
+    list: &mut ArrayVec<Ranked, MOST>,
+    entry: u16,
+    offer: &Offer,
+    ones: &[PreparedOne],
+)
+    requires room { array_vec_len list.old + length ones.now ≤ 448 }
+    requires few { length ones.now ≤ 16 }
+    ensures count { array_vec_len list.new ≤ array_vec_len list.old + length ones.now }
+    ensures pairs { (e : Entry) → OfferOf e offer.now → list.new.items ≡ list.old.items ++ map ranked_of (pairs_of entry e 1 ones.now) }
+{
+    for (index, one) in ones.iter().enumerate() {
+        if fits(offer, one) {
+            list.push(Ranked {
+                priority: offer.priority,
+                entry,
+                combination: index as u8 + 1,
+            });
+        }
+    }
+}
+
+// Adds the pairs of an entry that the arena holds.
+pub(crate) fn add_entry(
+    list: &mut ArrayVec<Ranked, MOST>,
+    arena: &Arena,
+    entry: u16,
+    ones: &[PreparedOne],
+)
+    requires room { array_vec_len list.old + most_pairs (entry_held entry arena.now.objects) ≤ 448 }
+    requires few { length ones.now ≤ 16 }
+    ensures count { array_vec_len list.new ≤ array_vec_len list.old + most_pairs (entry_held entry arena.now.objects) }
+    ensures pairs { list.new.items ≡ list.old.items ++ map ranked_of (pairs_of entry (entry_held entry arena.now.objects) 1 ones.now) }
+{
+    if let Some(offer) = offer_of(arena, entry) {
+        add_pairs(list, entry, &offer, ones);
+    }
+}

@@ -1,0 +1,4 @@
+pub mod StoreState
+pub mod Answers
+pub mod ArenaState
+pub mod Calls

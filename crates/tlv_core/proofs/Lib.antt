@@ -1,0 +1,5 @@
+pub mod Heads
+pub mod Runs
+pub mod Whole
+pub mod Pieces
+pub mod Forest
