@@ -55,10 +55,12 @@ fn letter_of(event: &Event) -> u8 {
 
 // A transport that no card comes to, where some round collided.
 #[derive(Drop)]
-struct Empty;
+struct Empty {
+    presented: bool,
+}
 
 impl Transport for Empty {
-    ghost use Rattle.std.specs.Prelude.{⊤, false};
+    ghost use Rattle.std.specs.Prelude.{⊤};
 
     ghost State = { Unit {0} };
 
@@ -66,19 +68,22 @@ impl Transport for Empty {
 
     ghost steps = { record { presents = λ s p t. ⊤; transacts = λ s c r t. ⊤; closes = λ s b t. ⊤ } };
 
-    ghost presented = { λ _. false };
+    ghost presented = { λ e. e.presented };
 
     ghost faults = { λ _. 0 };
 
     fn present(&mut self) -> Result<Presented, PresentEnd> {
+        self.presented = false;
         Err(PresentEnd::NoCard { collision: true })
     }
 
     fn transact(&mut self, _command: &Command) -> Result<Response, LinkEnd> {
+        self.presented = false;
         Err(LinkEnd::Spent { bad: 3 })
     }
 
     fn close(&mut self) -> Result<(), RfFailed> {
+        self.presented = false;
         Ok(())
     }
 }
@@ -139,14 +144,24 @@ fn no_card_comes(rt: HostRuntime) -> Result<(), Fail> {
         letters: ArrayVec::new(),
     };
     let scripts = Scripts::of(Vec::new(rt.alloc()));
-    let ran = session.run(&prepare(&config, 0, 1000), scripts, &mut Empty, &mut kept);
+    let ran = session.run(
+        &prepare(&config, 0, 1000),
+        scripts,
+        &mut Empty { presented: false },
+        &mut kept,
+    );
     assert_eq!(rt; ran, Ran::Ended(End::NoCard));
     assert_eq!(rt; kept.letters.as_slice(), b"spmme".as_slice());
     let scripts = Scripts::of(Vec::new(rt.alloc()));
     let mut kept = Kept {
         letters: ArrayVec::new(),
     };
-    let ran = session.run(&prepare(&config, 1, 1000), scripts, &mut Empty, &mut kept);
+    let ran = session.run(
+        &prepare(&config, 1, 1000),
+        scripts,
+        &mut Empty { presented: false },
+        &mut kept,
+    );
     assert_eq!(rt; ran, Ran::Ended(End::Done));
     assert_eq!(rt; kept.letters.as_slice(), b"some".as_slice());
     Ok(())
