@@ -85,3 +85,15 @@ card_hears frame image card (RNak k) =
     if same k card.number then again card else sends (RAck card.number) card.number card.taken card.left card.log
 card_hears frame image card Deselect = sends Deselect card.number [] (Parts []) card.log
 card_hears frame image card (Wtx p m) = on_wtx card.left card
+
+-- After S(DESELECT) the card is halted: that block is then its last (ISO/IEC 14443-4; that nothing moves it afterwards is this project's profile).
+abbrev pub is_deselect : Option Block → Bool
+is_deselect None = false
+is_deselect (Some (I k ch inf)) = false
+is_deselect (Some (RAck k)) = false
+is_deselect (Some (RNak k)) = false
+is_deselect (Some Deselect) = true
+is_deselect (Some (Wtx p m)) = false
+
+abbrev pub is_halted : Card → Bool
+is_halted card = is_deselect card.last

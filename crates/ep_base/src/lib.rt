@@ -3,6 +3,7 @@
 #![tactic(auto)]
 
 mod air;
+mod blocks;
 mod buffers;
 mod memory;
 mod objects;
@@ -11,6 +12,7 @@ mod standard;
 mod streams;
 
 pub use air::{CardKind, Wave};
+pub use blocks::{BlockFault, Phase};
 pub use buffers::{Buf, FrameBuf, Line, frame_size};
 pub use memory::{MemorySink, MemorySource};
 pub use objects::{Node, TlvFault};
