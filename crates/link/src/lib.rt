@@ -2,11 +2,10 @@
 #![tactic(auto)]
 
 mod direct;
-mod ends;
 mod transport;
 
+pub use block_reader::{Breach, LinkEnd, Phase};
 pub use direct::Direct;
-pub use ends::{Breach, LinkEnd, Phase};
 pub use transport::{PresentEnd, Presented, Transport};
 
 #[cfg(test)]
