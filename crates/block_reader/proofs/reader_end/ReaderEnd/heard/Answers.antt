@@ -13,5 +13,5 @@ returns-clause-stands c = λ es stands.
     let old : Held = held c.args.self.now in (
       heard_on old (held c.take.new.self) h c.take.ensures.setting c.requires.open (λ r s. (c.take.ensures.by_rules r s).stands) c.take.ensures.kept es stands,
       said_on old h c.take.result c.requires.open
-      (λ r s. subst (λ (l : LinkSetting). Says c.take.result l h (turn_on old.set r h)) c.take.ensures.setting (c.take.ensures.by_rules r s).says) es stands,
+          (λ r s. subst (λ (l : LinkSetting). Says c.take.result l h (turn_on old.set r h)) c.take.ensures.setting (c.take.ensures.by_rules r s).says) es stands,
     )
