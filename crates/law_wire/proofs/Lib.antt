@@ -1,0 +1,5 @@
+pub mod Carrying
+pub mod Imaging
+pub mod Passing
+pub mod Placing
+pub mod Reading
