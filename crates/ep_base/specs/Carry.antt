@@ -44,7 +44,7 @@ pub record AtRest (r : Reader) (card : Card) : Type 0 where
   pub none_logged : card.log ≡ []
   pub unhalted : is_halted card ≡ false
 
--- The wire is of this link, its card is an image of the document, and its log has at least two free records.
+-- The wire is of this link, its card is an image of the document, and its log has at least two free records (this project's own).
 pub record OfLink (set : LinkSetting) (w : Wire) : Type 0 where
   pub kind : w.party.kind ≡ set.kind
   pub frame : w.party.fsd ≡ set.frames.reader
