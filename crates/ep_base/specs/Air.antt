@@ -26,6 +26,7 @@ IsLeg Loses = Unit {0}
 IsLeg (Bursts start mask) = mask < 2 ^ 16
 IsLeg Leaves = Unit {0}
 
+-- So are all of these fates (this project's own).
 abbrev pub ArePassages : List Passage → Type 0
 ArePassages [] = Unit {0}
 ArePassages (f ∷ fates) = IsLeg f.down × IsLeg f.up × ArePassages fates
