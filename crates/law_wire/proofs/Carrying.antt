@@ -24,7 +24,7 @@ use Rattle.law_link.specs.Once.{IsImage, AreFrames, IsIdle}
 use Rattle.law_link.proofs.Exchange.{Place, Before, reader_at, card_at, Fine, Fits, GoodTurn, log_at, taken, exchange}
 use Rattle.law_link.proofs.Cutting.{cut_joins}
 use Rattle.law_transaction.proofs.Imaging.{linked_image}
-use Rattle.law_wire.proofs.Reading.{Sent}
+use Rattle.law_wire.proofs.Reading.{Sent, sent_block}
 use Rattle.law_wire.proofs.Passing.{MaySend, went, down_law, up_law, next_legs}
 use Rattle.law_wire.proofs.Imaging.{Shifted, shifted, after_after, number_after, records_append}
 use Rattle.law_wire.proofs.Placing.{asked_sent, answer_sent}
@@ -133,7 +133,7 @@ module _ (set : LinkSetting) (w0 : Wire) (of : OfLink set w0) where
         let bytes = sealed (wave_of_kind set.kind) (spelled b) in
         let heeded : Heeded = wire_heeds w (wave_of_kind set.kind) (sealed (wave_of_kind set.kind) (spelled b)) in
         let open_card : is_halted w.party.card ≡ false = ap is_halted shows.end ∙ shows.unhalted in
-        let down = down_law set.kind w b shows.kind open_card is shows.fates room in
+        let down = down_law set.kind w b shows.kind open_card (sent_block b is) shows.fates room in
         let done_it : Done heeded = subst Done (sym down.1) (done down.0) in
         let up = up_law set.kind set.frames.reader (goes_down done_it.down set.frames image card b).block (may_send may done_it.down) (next_fate w.air.fates).up (next_legs w.air.fates shows.fates).1 in
         let hearing : comes_back (next_fate w.air.fates).up (aired heeded.answer) ≡ h = ap (λ (p : Option Hearing × Wire). unwrap_or p.0 Silence) e in

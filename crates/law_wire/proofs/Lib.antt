@@ -3,3 +3,4 @@ pub mod Imaging
 pub mod Passing
 pub mod Placing
 pub mod Reading
+pub mod Recording

@@ -1,20 +1,21 @@
 -- A frame comes as it was sent, or it isn't taken for a block.
-use Rattle.std.proofs.Common.{◌≡◌, ℕ, ◌<◌, ◌≤◌, ◌^◌, ◌&&◌, Bool, true, false, List, [], ◌∷◌, length, Option, Some, None, refl, ap, ◌∙◌, arith, if◌then◌else◌, le-leb}
+use Rattle.std.proofs.Common.{◌≡◌, ℕ, ◌<◌, ◌≤◌, ◌^◌, ◌&&◌, Bool, true, false, List, [], ◌∷◌, length, Option, Some, None, refl, ap, ◌∙◌, ◌⊎◌, inl, inr, arith, if◌then◌else◌, le-leb}
 use Rattle.std.specs.Prelude.{nat_lt, nat_le, not}
 use Rattle.ep_base.specs.declared.air.CardKind.{CardKind}
 use Rattle.ep_base.specs.declared.air.CardKind.TheVariants as kinds
 use Rattle.ep_base.specs.Hearing.{Silence, Noise, Frame, same_wave, wave_of_kind}
 use Rattle.ep_base.specs.Frame.{HasCheck, is_good, is_bare, hits, after_burst, sealed, opened, without_check}
 use Rattle.ep_base.specs.Air.{Leg, Passes, Loses, Bursts, Leaves, IsLeg, Passage, ArePassages, next_fate, fates_after}
-use Rattle.ep_base.specs.Block.{Block, Bad, Intact, frame_length}
+use Rattle.ep_base.specs.Block.{Block, Heard, Bad, Intact, frame_length}
 use Rattle.ep_base.specs.Link.{comes_up}
 use Rattle.ep_base.specs.CardEnd.{is_halted}
-use Rattle.ep_base.specs.Spelling.{Read, spelled}
+use Rattle.ep_base.specs.Spelling.{Read, spelled, is_block}
 use Rattle.ep_base.specs.LinkFrames.{heard_block, heard_opened, intact}
 use Rattle.ep_base.specs.Wire.{comes_down, comes_back, burst_down, burst_up, Party, Heeded, unmoved, maybe_frame, takes_block, takes_read, takes_opened, takes_frame, takes_down, aired, Wire, wire_heeds}
 use Rattle.rf_frame.proofs.Opening.{ends_sealed, after_burst-missed}
 use Rattle.rf_frame.proofs.BurstLaw.{burst_law}
-use Rattle.law_wire.proofs.Reading.{Sent, spelled_reads, opened_spelled, sealed_length}
+use Rattle.law_wire.specs.Whole.{TakenWhole, HeardWhole, NothingIsBad}
+use Rattle.law_wire.proofs.Reading.{Sent, sent_block, spelled_reads, opened_spelled, sealed_length}
 
 has_check : (kind : CardKind) → HasCheck (wave_of_kind kind)
 has_check kinds.A = tt
@@ -52,7 +53,7 @@ module _ (kind : CardKind) (b : Block) where
   went true p = takes_block p b
   went false p = unmoved p
 
-  module _ (p : Party) (same : p.kind ≡ kind) (free : is_halted p.card ≡ false) (is : Sent b) where
+  module _ (p : Party) (same : p.kind ≡ kind) (free : is_halted p.card ≡ false) (is : is_block b ≡ true) where
     takes_it : (bytes : List ℕ) → takes_frame p (wave_of_kind kind) bytes ≡ takes_opened p (opened (wave_of_kind kind) bytes)
     takes_it bytes =
         let here : (same_wave (wave_of_kind kind) (wave_of_kind p.kind) && not (is_halted p.card)) ≡ true = rw (same, free, own_wave kind) refl in
@@ -77,7 +78,7 @@ module _ (kind : CardKind) (b : Block) where
 
   -- ---- up
 
-  module _ (fsd : ℕ) (is : Sent b) (fits : frame_length b ≤ fsd) where
+  module _ (fsd : ℕ) (is : is_block b ≡ true) (fits : frame_length b ≤ fsd) where
     heard_it : (bytes : List ℕ) → heard_block kind fsd (Frame (wave_of_kind kind) bytes) ≡ heard_opened fsd (length bytes) (opened (wave_of_kind kind) bytes)
     heard_it bytes = ap (λ (x : Bool). if x then heard_opened fsd (length bytes) (opened (wave_of_kind kind) bytes) else Bad) (own_wave kind)
 
@@ -111,7 +112,7 @@ next_legs [] a = (tt, tt, tt)
 next_legs (f ∷ fates) a = a
 
 -- the card takes the block that was sent, or nothing
-pub down_law : (kind : CardKind) (w : Wire) (b : Block) → w.party.kind ≡ kind → is_halted w.party.card ≡ false → Sent b → ArePassages w.air.fates → length w.log < w.room
+pub down_law : (kind : CardKind) (w : Wire) (b : Block) → w.party.kind ≡ kind → is_halted w.party.card ≡ false → is_block b ≡ true → ArePassages w.air.fates → length w.log < w.room
     → (d : Bool) × (wire_heeds w (wave_of_kind kind) (sealed (wave_of_kind kind) (spelled b)) ≡ went kind b d w.party)
 down_law kind w b same unhalted is fates room = by_gone w.air.gone refl
   where
@@ -134,7 +135,7 @@ abbrev pub MaySend : ℕ → Option Block → Type 0
 MaySend fsd None = Unit {0}
 MaySend fsd (Some b) = Sent b × (frame_length b ≤ fsd)
 
-silent : (kind : CardKind) (fsd : ℕ) (leg : Leg) → heard_block kind fsd (comes_back leg Silence) ≡ Bad
+pub silent : (kind : CardKind) (fsd : ℕ) (leg : Leg) → heard_block kind fsd (comes_back leg Silence) ≡ Bad
 silent kind fsd Passes = refl
 silent kind fsd Loses = refl
 silent kind fsd (Bursts start mask) = refl
@@ -144,4 +145,27 @@ silent kind fsd Leaves = refl
 pub up_law : (kind : CardKind) (fsd : ℕ) (o : Option Block) → MaySend fsd o → (leg : Leg) → IsLeg leg
     → (up : Bool) × (heard_block kind fsd (comes_back leg (aired (maybe_frame kind o))) ≡ comes_up up o)
 up_law kind fsd None may leg l = (true, silent kind fsd leg)
-up_law kind fsd (Some b) may leg l = leg_up kind b fsd may.0 may.1 leg l
+up_law kind fsd (Some b) may leg l = leg_up kind b fsd (sent_block b may.0) may.1 leg l
+
+-- ---- the same as laws
+
+by_went : (kind : CardKind) (b : Block) (p : Party) (h : Heeded) (d : Bool) → h ≡ went kind b d p → (h ≡ takes_block p b) ⊎ (h ≡ unmoved p)
+by_went kind b p h true e = inl e
+by_went kind b p h false e = inr e
+
+pub taken_whole : TakenWhole
+taken_whole kind w b same unhalted is fates room =
+    let x = down_law kind w b same unhalted is fates room in
+    by_went kind b w.party (wire_heeds w (wave_of_kind kind) (sealed (wave_of_kind kind) (spelled b))) x.0 x.1
+
+by_up : (b : Block) (h : Heard) (up : Bool) → h ≡ comes_up up (Some b) → (h ≡ Intact b) ⊎ (h ≡ Bad)
+by_up b h true e = inl e
+by_up b h false e = inr e
+
+pub heard_or_bad : HeardWhole
+heard_or_bad kind fsd b leg is fits l =
+    let x = leg_up kind b fsd is fits leg l in
+    by_up b (heard_block kind fsd (comes_back leg (Frame (wave_of_kind kind) (sealed (wave_of_kind kind) (spelled b))))) x.0 x.1
+
+pub nothing_is_bad : NothingIsBad
+nothing_is_bad = silent
