@@ -1,3 +1,4 @@
+pub mod Activation
 pub mod Air
 pub mod Apdu
 pub mod Arena
@@ -36,8 +37,11 @@ pub mod PreProcessing
 pub mod ReaderEnd
 pub mod Reading
 pub mod ReportLine
+pub mod Round
 pub mod Said
 pub mod Talk
 pub mod Transport
 pub mod TransportRun
+pub mod TypeA
+pub mod TypeB
 pub mod WrittenText
