@@ -1,5 +1,6 @@
 //! The reader's side: anticollision, selection and RATS, one frame at a time.
 ghost use Rattle.std.specs.Prelude.{◌≡◌, ◌≤◌, ◌<◌, IsSome, length};
+ghost use Rattle.std.specs.Option.{IsNone};
 ghost use Rattle.ep_base.specs.Hearing.{place_of, end_of};
 ghost use Rattle.ep_base.specs.TypeA.{sel as sel_of, bcc as bcc_of, is_level as is_level_of, Woken};
 ghost use Rattle.rf_frame.specs.Meaning.{heard_of, maybe_end, round_end_of};
@@ -203,6 +204,7 @@ impl AReader {
         ensures fsdi { self.new.fsdi ≡ self.old.fsdi }
         ensures stage { self.new.stage ≡ place_of (turn self.old (heard_of heard.now)) }
         ensures end { maybe_end result ≡ end_of (turn self.old (heard_of heard.now)) }
+        ensures going { IsNone result → IsSome self.new.stage }
     {
         let wave = match self.step {
             Step::Woken | Step::Level => Wave::ABare,

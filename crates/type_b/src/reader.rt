@@ -1,5 +1,6 @@
 //! The reader's side: ATQB and ATTRIB.
 ghost use Rattle.std.specs.Prelude.{◌≡◌, ◌<◌, IsSome, None};
+ghost use Rattle.std.specs.Option.{IsNone};
 ghost use Rattle.ep_base.specs.Hearing.{place_of, end_of};
 ghost use Rattle.ep_base.specs.TypeB.{b_found};
 ghost use Rattle.rf_frame.specs.Meaning.{heard_of, maybe_end, round_end_of};
@@ -75,6 +76,7 @@ impl BReader {
         ensures fsdi { self.new.fsdi ≡ self.old.fsdi }
         ensures place { self.new.place ≡ place_at (place_of (b_found (heard_of heard.now))) }
         ensures end { maybe_end result ≡ end_of (b_found (heard_of heard.now)) }
+        ensures going { IsNone result → IsSome (stage_at self.new.place) }
     {
         match answer_in(Wave::B, heard) {
             Ok(message) => match parse_atqb(message) {
@@ -115,6 +117,7 @@ impl BReader {
         ensures fsdi { self.new.fsdi ≡ self.old.fsdi }
         ensures place { self.new.place ≡ place_at (place_of (turn self.old (heard_of heard.now))) }
         ensures end { maybe_end result ≡ end_of (turn self.old (heard_of heard.now)) }
+        ensures ends { IsSome result }
     {
         match answer_in(Wave::B, heard) {
             Ok(message) => {
