@@ -1,3 +1,4 @@
+pub mod Activation
 pub mod Air
 pub mod Apdu
 pub mod Arena
@@ -38,10 +39,13 @@ pub mod PreProcessing
 pub mod ReaderEnd
 pub mod Reading
 pub mod ReportLine
+pub mod Round
 pub mod Said
 pub mod Spelling
 pub mod Talk
 pub mod Transport
 pub mod TransportRun
+pub mod TypeA
+pub mod TypeB
 pub mod Wire
 pub mod WrittenText
