@@ -1,5 +1,5 @@
 //! The card's rules, for each kind of block.
-ghost use Rattle.std.specs.Prelude.{◌≡◌, ℕ, ◌≤◌, List};
+ghost use Rattle.std.specs.Prelude.{◌≡◌, ℕ, ◌≤◌, Bool, false, List, length};
 ghost use Rattle.ep_base.specs.Block as plain;
 ghost use Rattle.ep_base.specs.CardEnd.{Card, Answer, again, answers};
 ghost use Rattle.block_pcb.specs.Meaning.{block_of};
@@ -15,6 +15,7 @@ use block_pcb::Block;
 const WRONG_LENGTH: [u8; 2] = [0x67, 0x00];
 
 impl CardEnd {
+    // The last block again, if there is one.
     fn repeat(&mut self) -> Step
         ensures by_rules { (c : Card) → IsCard (held_card self.old) c → Replies result (held_card self.new) (again c) }
         ensures kind { self.new.kind ≡ self.old.kind }
@@ -26,6 +27,7 @@ impl CardEnd {
         }
     }
 
+    // The last block again where it has the card's number, else an R(ACK).
     fn receive_nak(&mut self, number: bool) -> Step
         ensures by_rules { (c : Card) → IsCard (held_card self.old) c → StepShows result (held_card self.new) c (plain.RNak number) }
         ensures kind { self.new.kind ≡ self.old.kind }
@@ -38,6 +40,7 @@ impl CardEnd {
         self.repeat()
     }
 
+    // The last block again where it has the card's number, else the next part of the response.
     fn receive_ack(&mut self, number: bool) -> Step
         ensures by_rules { (c : Card) → IsCard (held_card self.old) c → StepShows result (held_card self.new) c (plain.RAck number) }
         ensures kind { self.new.kind ≡ self.old.kind }
@@ -55,18 +58,17 @@ impl CardEnd {
         Step::Send
     }
 
-    fn receive_wtx(&mut self, power: u8, wtxm: u8) -> Step
-        ensures by_rules { (c : Card) → IsCard (held_card self.old) c → StepShows result (held_card self.new) c (plain.Wtx power wtxm) }
+    // After the card's own S(WTX) the next one, or the response.
+    fn receive_wtx(&mut self) -> Step
+        ensures by_rules { (power wtxm : ℕ) (c : Card) → IsCard (held_card self.old) c → StepShows result (held_card self.new) c (plain.Wtx power wtxm) }
         ensures kind { self.new.kind ≡ self.old.kind }
         ensures kept { self.new.fsd ≡ self.old.fsd }
     {
-        let _power = power;
-        let _wtxm = wtxm;
         if !self.waiting {
             return Step::Mute;
         }
+        self.taken.clear();
         if self.wtx > 0 {
-            self.taken.clear();
             self.wtx -= 1;
             self.last = Last::Waiting;
             return Step::Send;
@@ -76,14 +78,13 @@ impl CardEnd {
         Step::Send
     }
 
-    fn receive_part(&mut self, number: bool, chained: bool, inf: &[u8]) -> Step
-        ensures by_rules { (c : Card) → IsCard (held_card self.old) c → StepShows result (held_card self.new) c (plain.I number chained inf.now) }
+    // A part of a command, which is dropped where the command becomes too long.
+    fn receive_part(&mut self, chained: bool, inf: &[u8]) -> Step
+        ensures by_rules { (number : Bool) (c : Card) → IsCard (held_card self.old) c → StepShows result (held_card self.new) c (plain.I number chained inf.now) }
         ensures kind { self.new.kind ≡ self.old.kind }
         ensures kept { self.new.fsd ≡ self.old.fsd }
     {
-        let _number = number;
-        self.waiting = false;
-        self.place = self.response.len();
+        self.drop_response();
         if self.taken.try_extend_from_slice(inf).is_err() {
             self.taken.clear();
             return Step::Mute;
@@ -96,6 +97,7 @@ impl CardEnd {
         Step::Execute
     }
 
+    // Halts the card.
     fn receive_deselect(&mut self) -> Step
         ensures by_rules { (c : Card) → IsCard (held_card self.old) c → StepShows result (held_card self.new) c plain.Deselect }
         ensures kind { self.new.kind ≡ self.old.kind }
@@ -103,9 +105,16 @@ impl CardEnd {
     {
         self.last = Last::Deselected;
         self.taken.clear();
+        self.drop_response();
+        Step::Send
+    }
+
+    // Nothing is left to send.
+    fn drop_response(&mut self)
+        ensures { held_card self.new ≡ record (held_card self.old) { waiting = false; place = length self.old.response.items } }
+    {
         self.waiting = false;
         self.place = self.response.len();
-        Step::Send
     }
 
     // Takes a block, by the card's rules.
@@ -115,15 +124,11 @@ impl CardEnd {
         ensures kept { self.new.fsd ≡ self.old.fsd }
     {
         match *block {
-            Block::I {
-                number,
-                chained,
-                inf,
-            } => self.receive_part(number == 1, chained, inf),
+            Block::I { chained, inf, .. } => self.receive_part(chained, inf),
             Block::RAck { number } => self.receive_ack(number == 1),
             Block::RNak { number } => self.receive_nak(number == 1),
             Block::Deselect => self.receive_deselect(),
-            Block::Wtx { power, wtxm } => self.receive_wtx(power, wtxm),
+            Block::Wtx { .. } => self.receive_wtx(),
         }
     }
 
@@ -143,8 +148,8 @@ impl CardEnd {
             .unwrap();
         self.wtxm = wtxm;
         self.place = 0;
+        self.taken.clear();
         if wtx > 0 {
-            self.taken.clear();
             self.wtx = wtx - 1;
             self.waiting = true;
             self.last = Last::Waiting;
