@@ -1,5 +1,6 @@
 //! Blocks written as bytes.
-ghost use Rattle.std.specs.Prelude.{◌≡◌, []};
+ghost use Rattle.std.specs.Prelude.{◌≡◌, ◌≤◌, []};
+ghost use Rattle.arrayvec.specs.ArrayVec.{array_vec_len};
 ghost use Rattle.ep_base.specs.Spelling.{pcb_of, inf_of, spelled};
 ghost use Rattle.block_pcb.specs.Meaning.{block_of, InRange};
 
@@ -33,6 +34,7 @@ pub fn encode(block: &Block<'_>, out: &mut FrameBuf)
     requires range { InRange block.now }
     requires empty { out.old.items ≡ [] }
     ensures bytes { out.new.items ≡ spelled (block_of block.now) }
+    ensures most { array_vec_len out.new ≤ 254 }
 {
     out.push(pcb(block));
     match *block {

@@ -29,6 +29,7 @@ pub mod KernelCounts
 pub mod Lane
 pub mod Lanes
 pub mod Link
+pub mod LinkEvents
 pub mod LinkFrames
 pub mod Medium
 pub mod Memory
