@@ -18,6 +18,7 @@ pub mod Direct
 pub mod Directory
 pub mod EntryPoint
 pub mod FaultText
+pub mod Field
 pub mod Floor
 pub mod Frame
 pub mod FrameSize
