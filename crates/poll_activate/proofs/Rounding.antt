@@ -184,14 +184,6 @@ module _ {S : Type 0} (steps : MediumSteps S) (fsdi : ℕ) (Whole : Option Round
   pub lost : (p : Option Stage) (s u : S) (ask : Asked) (k : ℕ) → From p s → ask ≡ asked_in k p → k ≡ fsdi → Exchanges steps s ask None u → Whole None u
   lost p s u ask k f a same x = lost_at f.n f.stage s u f.enough f.whole (rw (asks_at p s f ask k a same) at x)
 
--- An exchange after which the round goes on leaves fewer.
-pub less_left : (p q : Option Stage) (h : Hearing) → IsSome p → q ≡ place_of (turn_in p h) → None ≡ end_of (turn_in p h) → left_at q < left_at p
-less_left None q h is e over = cc
-less_left (Some stage) q h is e over =
-    let g = goes_at (round_hears stage h) over in
-    let less : left g.0 < left stage = subst (λ t. Fewer t (left stage)) g.1 (fewer stage h) in
-    rw (e, ap place_of g.1) less
-
 -- A round begins.
 pub begins : {S : Type 0} → (steps : MediumSteps S) (fsdi : ℕ) (s : S) → From steps fsdi (λ ending t. PlaysRound steps fsdi s ending t) (Some Waking) s
 begins steps fsdi s = record { stage = Waking; at = refl; n = 11; enough = omega arith; whole = λ ending t plays. plays }

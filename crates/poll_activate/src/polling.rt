@@ -31,7 +31,7 @@ pub fn round<M: Medium>(medium: &mut M, fsdi: u8) -> Result<RoundEnd, RfFailed>
     ensures cause { HasCause (M.faults medium.old) (M.faults medium.new) (IsErr result) }
 {
     let mut poll = Poll::open(fsdi);
-    loop {
+    'exchanges: loop {
         let heard = exchange(medium, &poll.ask())?;
         if let Some(end) = poll.heard(&heard) {
             return Ok(end);
@@ -61,7 +61,7 @@ pub fn poll<M: Medium>(medium: &mut M, fsdi: u8, rounds: &mut Rounds) -> Result<
     ensures none { IsErrOf result PollEnd.NoCard ↔ AreAllWithoutCard (ends_of rounds.new.items) }
     ensures cause { HasCause (M.faults medium.old) (M.faults medium.new) (IsErrOf result PollEnd.Device) }
 {
-    while rounds.len() < 64 {
+    'each: while rounds.len() < 64 {
         let end = match round(medium, fsdi) {
             Ok(end) => end,
             Err(_) => return Err(PollEnd::Device),

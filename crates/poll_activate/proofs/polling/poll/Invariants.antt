@@ -8,8 +8,8 @@ use Rattle.poll_activate.proofs.Repeating.{Onward}
 use Rattle.poll_activate.proofs.polling.poll.Given as goal
 
 -- What the rounds from here on give comes after the ends so far, none of which is a card's.
-abbrev pub invariant-loop-medium : goal.invariant-loop-medium
-invariant-loop-medium g l = record {
+abbrev pub invariant-each : goal.invariant-each
+invariant-each g l = record {
   onward : Onward g.M.Medium.steps l.fn.fsdi (λ ends polled t. PlaysRounds g.M.Medium.steps l.fn.fsdi 64 (g.M.Medium.state l.fn.medium) ends polled t)
       (ends_of l.rounds.items) (64 - array_vec_len l.rounds) (g.M.Medium.state l.medium);
   most : array_vec_len l.rounds ≤ 64;
@@ -17,5 +17,5 @@ invariant-loop-medium g l = record {
   later : g.M.Medium.faults l.fn.medium ≤ g.M.Medium.faults l.medium;
 }
 
-abbrev pub decreases-loop-medium : goal.decreases-loop-medium
-decreases-loop-medium g l = 64 - array_vec_len l.rounds
+abbrev pub decreases-each : goal.decreases-each
+decreases-each g l = 64 - array_vec_len l.rounds

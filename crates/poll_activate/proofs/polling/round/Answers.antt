@@ -10,20 +10,20 @@ pub returns-in_err-heard-clause-plays : goal.returns-in_err-heard-clause-plays
 returns-in_err-heard-clause-plays g c =
     let p = err_from_is_err_and c.from_residual.result c.from_residual.ensures.1 in
     rw p.1 (lost g.M.Medium.steps c.args.fsdi (λ ending t. PlaysRound g.M.Medium.steps c.args.fsdi (g.M.Medium.state c.args.medium.now) ending t)
-        c.loop-heard.poll.stage (g.M.Medium.state c.loop-heard.medium) (g.M.Medium.state c.exchange.new.medium) c.ask.result c.loop-heard.poll.fsdi
-        c.loop-heard.invariant.from c.ask.ensures.asked c.loop-heard.invariant.fsdi c.in_err-heard.ensures.step)
+    c.exchanges.poll.stage (g.M.Medium.state c.exchanges.medium) (g.M.Medium.state c.exchange.new.medium) c.ask.result c.exchanges.poll.fsdi
+    c.exchanges.invariant.from c.ask.ensures.asked c.exchanges.invariant.fsdi c.in_err-heard.ensures.step)
 
 pub returns-in-Some-clause-plays : goal.returns-in-Some-clause-plays
 returns-in-Some-clause-plays g c =
     last g.M.Medium.steps c.args.fsdi (λ ending t. PlaysRound g.M.Medium.steps c.args.fsdi (g.M.Medium.state c.args.medium.now) ending t)
-    c.loop-heard.poll.stage (g.M.Medium.state c.loop-heard.medium) (g.M.Medium.state c.exchange.new.medium) c.ask.result (heard_of c.in_ok-heard.heard) c.loop-heard.poll.fsdi (round_end_of c.in-Some.end)
-    c.loop-heard.invariant.from c.ask.ensures.asked c.loop-heard.invariant.fsdi c.in_ok-heard.ensures.step c.in-Some.ensures.end
+    c.exchanges.poll.stage (g.M.Medium.state c.exchanges.medium) (g.M.Medium.state c.exchange.new.medium) c.ask.result (heard_of c.in_ok-heard.heard) c.exchanges.poll.fsdi (round_end_of c.in-Some.end)
+    c.exchanges.invariant.from c.ask.ensures.asked c.exchanges.invariant.fsdi c.in_ok-heard.ensures.step c.in-Some.ensures.end
 
-pub loop-heard-preserved : goal.loop-heard-preserved
-loop-heard-preserved g c = record {
+pub exchanges-preserved : goal.exchanges-preserved
+exchanges-preserved g c = record {
   from = next g.M.Medium.steps c.args.fsdi (λ ending t. PlaysRound g.M.Medium.steps c.args.fsdi (g.M.Medium.state c.args.medium.now) ending t)
-      c.loop-heard.poll.stage c.heard.new.self.stage (g.M.Medium.state c.loop-heard.medium) (g.M.Medium.state c.exchange.new.medium) c.ask.result (heard_of c.in_ok-heard.heard) c.loop-heard.poll.fsdi
-      c.loop-heard.invariant.from c.ask.ensures.asked c.loop-heard.invariant.fsdi c.in_ok-heard.ensures.step c.heard.ensures.stage (sym (ap maybe_end c.in_default.is) ∙ c.heard.ensures.end);
-  fsdi = c.heard.ensures.fsdi ∙ c.loop-heard.invariant.fsdi;
-  later = omega (arith, c.loop-heard.invariant.later, c.exchange.ensures.cause.later);
+      c.exchanges.poll.stage c.heard.new.self.stage (g.M.Medium.state c.exchanges.medium) (g.M.Medium.state c.exchange.new.medium) c.ask.result (heard_of c.in_ok-heard.heard) c.exchanges.poll.fsdi
+      c.exchanges.invariant.from c.ask.ensures.asked c.exchanges.invariant.fsdi c.in_ok-heard.ensures.step c.heard.ensures.stage (sym (ap maybe_end c.in_default.is) ∙ c.heard.ensures.end);
+  fsdi = c.heard.ensures.fsdi ∙ c.exchanges.invariant.fsdi;
+  later = omega (arith, c.exchanges.invariant.later, c.exchange.ensures.cause.later);
 }
