@@ -1,5 +1,5 @@
 -- A round after one more answer.
-use Rattle.std.proofs.Common.{◌≡◌, List, [], ◌∷◌, ◌++◌, Option, Some, None, IsSome, sym, ap, ◌∙◌}
+use Rattle.std.proofs.Common.{◌≡◌, List, [], ◌∷◌, ◌++◌, Option, Some, None, IsSome, sym, ap}
 use Rattle.ep_base.specs.Hearing.{Hearing, Turn, Goes, Ends, place_of}
 use Rattle.ep_base.specs.Round.{Stage, Waking, round_hears, goes_on, round_after}
 use Rattle.poll_activate.specs.Poll.{turn_in}

@@ -1,11 +1,11 @@
 -- The exchanges that a round has left, and how it runs from one to the next.
-use Rattle.std.proofs.Common.{◌≡◌, ◌+◌, ◌*◌, ◌-◌, ◌<◌, ◌≤◌, ℕ, zero, suc, Bool, true, false, ◌&&◌, List, [], if◌then◌else◌, nat_lt, refl, arith, sym, subst, ◌∙◌, ap}
-use Rattle.std.specs.Prelude.{Option, Some, None, IsSome, Result, Ok, Err}
+use Rattle.std.proofs.Common.{◌≡◌, ◌+◌, ◌*◌, ◌-◌, ◌<◌, ◌≤◌, ℕ, zero, suc, Bool, true, false, ◌&&◌, List, [], if◌then◌else◌, nat_lt, refl, arith, subst, ◌∙◌, ap}
+use Rattle.std.specs.Prelude.{Option, Some, None, Result, Ok, Err}
 use Rattle.ep_base.specs.declared.activation.Ats.{Ats}
 use Rattle.ep_base.specs.declared.activation.AtsFault.{AtsFault}
 use Rattle.ep_base.specs.Activation.{ats}
 use Rattle.ep_base.specs.Hearing.{Asked, Hearing, is_silent, RoundEnd, Empty, Collision, Unsupported, Broken, Turn, Goes, Ends, place_of, end_of, Awaited, Says, Fails, awaited, on_answer}
-use Rattle.ep_base.specs.TypeA.{AStage, Woken, Level, Select, Complete, a_says, a_wave, after_ats, continues}
+use Rattle.ep_base.specs.TypeA.{AStage, Woken, Level, Select, Complete, a_says, a_wave, after_ats}
 use Rattle.ep_base.specs.TypeB.{BStage, b_says, b_found}
 use Rattle.ep_base.specs.Round.{Stage, Waking, Halting, WakingB, InA, InB, round_asks, round_hears, in_a, in_b}
 use Rattle.ep_base.specs.Medium.{MediumSteps, Exchanges}
