@@ -39,6 +39,7 @@ pub mod Parts
 pub mod Perfect
 pub mod PreProcessing
 pub mod ReaderEnd
+pub mod Polling
 pub mod Reading
 pub mod ReportLine
 pub mod Round
