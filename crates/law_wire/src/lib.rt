@@ -6,7 +6,7 @@
 
 ghost use Rattle.ep_base.specs.Carry.{CarriedOnce};
 ghost use Rattle.law_wire.specs.Once.{RecordedOnce};
-ghost use Rattle.law_wire.specs.Whole.{HeardWhole, NothingIsBad, ReadAsSpelled, TakenWhole};
+ghost use Rattle.law_wire.specs.Whole.{ClosesQuietly, HeardWhole, NothingIsBad, ReadAsSpelled, TakenWhole};
 
 /// The bytes of a block are read as that block.
 pub fn blocks_are_read()
@@ -21,6 +21,11 @@ pub fn blocks_come_whole()
     ensures down { TakenWhole }
     ensures up { HeardWhole }
     ensures nothing { NothingIsBad }
+{}
+
+/// Whatever becomes of the S(DESELECT) that closes a link, nothing is executed.
+pub fn closes_quietly()
+    ensures { ClosesQuietly }
 {}
 
 /// Whatever becomes of the frames of an open link, a command is answered with its card's response and was executed
