@@ -19,11 +19,10 @@ use Rattle.ep_base.specs.Spelling.{spelled}
 use Rattle.ep_base.specs.LinkFrames.{LinkSetting, heard_block}
 use Rattle.ep_base.specs.Wire.{Heeded, Wire, wire, wire_heeds, moved, unmoved, answers_by, takes_block, maybe_frame, aired, comes_back, by_commands, image_after}
 use Rattle.ep_base.specs.Carry.{SendsBlock, GoesOn, Follows, AtRest, OfLink, AtMostOnce, Executed, OnceSo, CarriedOnce}
-use Rattle.card_image.proofs.Kept.{card_answer_keeps}
 use Rattle.law_link.specs.Once.{IsImage, AreFrames, IsIdle}
 use Rattle.law_link.proofs.Exchange.{Place, Before, reader_at, card_at, Fine, Fits, GoodTurn, log_at, taken, exchange}
 use Rattle.law_link.proofs.Cutting.{cut_joins}
-use Rattle.law_transaction.proofs.Imaging.{linked_image}
+use Rattle.law_transaction.proofs.Imaging.{answer_is, linked_image}
 use Rattle.law_wire.proofs.Reading.{Sent, sent_block}
 use Rattle.law_wire.proofs.Passing.{MaySend, went, down_law, up_law, next_legs}
 use Rattle.law_wire.proofs.Imaging.{Shifted, shifted, after_after, number_after, records_append}
@@ -151,8 +150,8 @@ module _ (set : LinkSetting) (w0 : Wire) (of : OfLink set w0) where
     linked : IsImage image
     linked = linked_image (λ card. image0.number) image0.number image0 of.image
 
-    answer_is : IsAnswer (card_answer image0 command).0
-    answer_is = (card_answer_keeps image0 command of.image).0
+    reply_is : IsAnswer (card_answer image0 command).0
+    reply_is = answer_is image0 command of.image
 
     abbrev At : Bool → Place → List Heard → Reader
     At m place s = reader_at set.frames image [] command m place s
@@ -194,7 +193,7 @@ module _ (set : LinkSetting) (w0 : Wire) (of : OfLink set w0) where
     may_answer m place s fine fits =
         let t = taken set.frames image [] command linked legal m place s fine fits in
         subst (λ (a : Answer). MaySend set.frames.reader a.block) (sym t.is)
-        (answer_sent set.frames image [] command sized linked answer_is.wtxm_least answer_is.wtxm_most m t.next s t.fine t.answers)
+        (answer_sent set.frames image [] command sized linked reply_is.wtxm_least reply_is.wtxm_most m t.next s t.fine t.answers)
 
     Rest : List Hearing → Type 0
     Rest hs = (m : Bool) (place : Place) (s : List Heard) (w : Wire) (turn : Turn) (t : Wire) → Fine set.frames image [] command place
@@ -224,7 +223,7 @@ module _ (set : LinkSetting) (w0 : Wire) (of : OfLink set w0) where
     all_hearings (h ∷ hs) m place s w turn t fine fits le shows follows =
         let card : Card = card_at set.frames image [] command m place in
         let r : Reader = At m place s in
-        let sent : Sent (asked (At m place s)) = asked_sent set.frames image [] command sized linked answer_is.wtxm_least answer_is.wtxm_most m place s fits in
+        let sent : Sent (asked (At m place s)) = asked_sent set.frames image [] command sized linked reply_is.wtxm_least reply_is.wtxm_most m place s fits in
         let x = one_exchange w (card_at set.frames image [] command m place) shows (asked (At m place s)) sent (may_answer m place s fine fits) h follows.0 follows.1 in
         let good = exchange set.frames image [] command sized linked legal m place s fine fits le x.down x.up in
         let on = subst (λ (k : Heard). GoesOn (λ q v. Follows (told wire) set hs q v turn t) (reader_hears set.frames.reader (At m place s) k) hs follows.0 turn t) x.heard follows.2 in
