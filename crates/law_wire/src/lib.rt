@@ -5,8 +5,11 @@
 #![tactic(auto)]
 
 ghost use Rattle.ep_base.specs.Carry.{CarriedOnce};
+ghost use Rattle.law_wire.specs.Alike.{CarriedAlike};
 ghost use Rattle.law_wire.specs.Once.{RecordedOnce};
 ghost use Rattle.law_wire.specs.Whole.{ClosesQuietly, HeardWhole, NothingIsBad, ReadAsSpelled, TakenWhole};
+
+use rf_frame::Medium;
 
 /// The bytes of a block are read as that block.
 pub fn blocks_are_read()
@@ -36,6 +39,11 @@ pub fn closes_quietly()
 /// and the reader's at most 256, the log has two free records, and the link is between two commands.
 pub fn carried_once()
     ensures { CarriedOnce }
+{}
+
+/// The same over any medium that carries the link's blocks as a wire does, which its good states show, and stays good.
+pub fn carried_alike<M: Medium>()
+    ensures { CarriedAlike M.steps }
 {}
 
 /// The same in numbers: a command adds one record to the log at most, and just one where it is answered.
