@@ -1,5 +1,5 @@
 -- What becomes of the frames of a transaction (this project's own).
-use Rattle.std.specs.Prelude.{◌≡◌, ℕ, zero, suc, ◌==◌, Bool, true, false, List, [], ◌∷◌, replicate, Option, Some, None}
+use Rattle.std.specs.Prelude.{◌≡◌, ℕ, zero, suc, ◌<◌, ◌^◌, ◌==◌, Bool, true, false, List, [], ◌∷◌, replicate, Option, Some, None}
 use Rattle.ep_base.specs.declared.air.Wave.TheVariants as waves
 use Rattle.ep_base.specs.Frame.{burst_bits}
 use Rattle.ep_base.specs.Block.{Block, frame_length}
@@ -18,6 +18,18 @@ pub data Leg : Type 0 where
 pub record Passage : Type 0 where
   pub down : Leg
   pub up : Leg
+
+-- A burst is one run of at most sixteen bits (this project's own).
+abbrev pub IsLeg : Leg → Type 0
+IsLeg Passes = Unit {0}
+IsLeg Loses = Unit {0}
+IsLeg (Bursts start mask) = mask < 2 ^ 16
+IsLeg Leaves = Unit {0}
+
+-- So are all of these fates (this project's own).
+abbrev pub ArePassages : List Passage → Type 0
+ArePassages [] = Unit {0}
+ArePassages (f ∷ fates) = IsLeg f.down × IsLeg f.up × ArePassages fates
 
 -- The fates that are left, and whether the cards are gone.
 pub record Air : Type 0 where

@@ -10,6 +10,7 @@ use Rattle.ep_base.specs.Spelling.{spelled}
 use Rattle.ep_base.specs.LinkFrames.{LinkSetting, wait_of, heard_block}
 use Rattle.ep_base.specs.Apdu.{is_command}
 use Rattle.ep_base.specs.CardAnswer.{IsImage, card_answer}
+use Rattle.ep_base.specs.Air.{ArePassages}
 use Rattle.ep_base.specs.Wire.{Party, Wire, wire_send, wire}
 
 -- The medium is sent a block of this link in a state, and answers so (ISO/IEC 14443-4).
@@ -44,7 +45,8 @@ pub record AtRest (r : Reader) (card : Card) : Type 0 where
   pub none_logged : card.log ≡ []
   pub unhalted : is_halted card ≡ false
 
--- The wire is of this link, its card is an image of the document, and its log has at least two free records.
+-- The wire is of this link, its card is an image of the document, its bursts have at most sixteen bits, and its log has at least two free
+-- records (this project's own).
 pub record OfLink (set : LinkSetting) (w : Wire) : Type 0 where
   pub kind : w.party.kind ≡ set.kind
   pub frame : w.party.fsd ≡ set.frames.reader
@@ -52,18 +54,21 @@ pub record OfLink (set : LinkSetting) (w : Wire) : Type 0 where
   pub reader_least : 16 ≤ set.frames.reader
   pub reader_most : set.frames.reader ≤ 256
   pub image : IsImage w.party.image
+  pub fates : ArePassages w.air.fates
   pub room : length w.log + 2 ≤ w.room
 
 -- The log is unchanged, or has one more record, this command (this project's own).
 abbrev pub AtMostOnce : Wire → List ℕ → Wire → Type 0
 AtMostOnce w command t = (t.log ≡ w.log) ⊎ (t.log ≡ w.log ++ (w.party.image.number, command) ∷ [])
 
--- The command was executed, and the image is the one after it; all else of the wire is as before but for the fates (this project's own).
+-- The command was executed, and the image is the one after it; all else of the wire is as before but for the fates, of which some are left
+-- (this project's own).
 pub record Executed (w : Wire) (command : List ℕ) (t : Wire) : Type 0 where
   pub log : t.log ≡ w.log ++ (w.party.image.number, command) ∷ []
   pub image : t.party.image ≡ (card_answer w.party.image command).1
   pub kind : t.party.kind ≡ w.party.kind
   pub frame : t.party.fsd ≡ w.party.fsd
+  pub fates : ArePassages t.air.fates
   pub room : t.room ≡ w.room
 
 -- What a command comes to: answered, it was executed exactly once and has its card's own response, and both ends are at rest again; spent, three

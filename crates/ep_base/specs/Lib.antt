@@ -1,3 +1,4 @@
+pub mod Activation
 pub mod Air
 pub mod Apdu
 pub mod Arena
@@ -17,6 +18,7 @@ pub mod Direct
 pub mod Directory
 pub mod EntryPoint
 pub mod FaultText
+pub mod Field
 pub mod Floor
 pub mod Frame
 pub mod FrameSize
@@ -37,12 +39,16 @@ pub mod Parts
 pub mod Perfect
 pub mod PreProcessing
 pub mod ReaderEnd
+pub mod Polling
 pub mod Reading
 pub mod ReportLine
+pub mod Round
 pub mod Said
 pub mod Spelling
 pub mod Talk
 pub mod Transport
 pub mod TransportRun
+pub mod TypeA
+pub mod TypeB
 pub mod Wire
 pub mod WrittenText

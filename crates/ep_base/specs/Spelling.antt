@@ -60,7 +60,7 @@ announced pcb =
     if pcb == 0xb2 then ANak false else (if pcb == 0xb3 then ANak true else (
     if pcb == 0xc2 then ADeselect else (if pcb == 0xf2 then AWtx else Nothing)))))))))
 
--- Whether a PCB announces a block at all, and an I-block (ISO/IEC 14443-4).
+-- Whether a PCB announces a block at all (ISO/IEC 14443-4).
 abbrev pub is_any : Announced → Bool
 is_any (AnI k ch) = true
 is_any (AnAck k) = true
@@ -69,6 +69,7 @@ is_any ADeselect = true
 is_any AWtx = true
 is_any Nothing = false
 
+-- Whether a PCB announces an I-block (ISO/IEC 14443-4).
 abbrev pub is_i : Announced → Bool
 is_i (AnI k ch) = true
 is_i (AnAck k) = false
@@ -77,10 +78,11 @@ is_i ADeselect = false
 is_i AWtx = false
 is_i Nothing = false
 
--- The bits of a PCB that announce a CID and a NAD (ISO/IEC 14443-4).
+-- The bit of a PCB that announces a CID (ISO/IEC 14443-4).
 abbrev pub has_cid_bit : ℕ → Bool
 has_cid_bit pcb = pcb / 8 % 2 == 1
 
+-- The bit of a PCB that announces a NAD (ISO/IEC 14443-4).
 abbrev pub has_nad_bit : ℕ → Bool
 has_nad_bit pcb = pcb / 4 % 2 == 1
 
@@ -110,6 +112,7 @@ read_bare b (x ∷ xs) = Refuses BadInf
 abbrev pub read_wtx_byte : ℕ → Read
 read_wtx_byte byte = if nat_le 1 (byte % 64) && nat_le (byte % 64) 59 then Reads (Wtx (byte / 64) (byte % 64)) else Refuses BadWtxm
 
+-- What follows the PCB of an S(WTX): exactly one byte (ISO/IEC 14443-4).
 abbrev pub read_wtx : List ℕ → Read
 read_wtx [] = Refuses BadInf
 read_wtx (byte ∷ []) = read_wtx_byte byte

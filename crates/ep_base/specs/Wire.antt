@@ -56,6 +56,7 @@ pub record Heeded : Type 0 where
   pub executed : List (ℕ × List ℕ)
   pub answer : Option Framed
 
+-- A card that does nothing (this project's own).
 abbrev pub unmoved : Party → Heeded
 unmoved p = record { party = p; executed = []; answer = None }
 
@@ -67,11 +68,12 @@ by_commands i = image_from (image_rules (λ card. i.number)) i.number i
 abbrev pub image_after : Image → List (List ℕ) → Image
 image_after i commands = state_after (image_rules (λ card. i.number)) i.number i commands
 
+-- A card's block in a frame, where it sends one (ISO/IEC 14443-4).
 abbrev pub maybe_frame : CardKind → Option Block → Option Framed
 maybe_frame kind None = None
 maybe_frame kind (Some b) = Some (block_frame kind b)
 
--- What the card does with a block; what it executes is recorded with its number (ISO/IEC 14443-4).
+-- The card once its end has answered so: what it executed is recorded with its number, and its image moves on (this project's own).
 abbrev pub answers_by : Party → Answer → Heeded
 answers_by p a = record {
   party = record { kind = p.kind; fsd = p.fsd; card = unlogged a.card; image = image_after p.image a.card.log };
@@ -79,6 +81,7 @@ answers_by p a = record {
   answer = maybe_frame p.kind a.block;
 }
 
+-- What a card does with a block, from its end of the link and its image as they are (ISO/IEC 14443-4).
 abbrev pub takes_block : Party → Block → Heeded
 takes_block p b = answers_by p (card_hears p.fsd (by_commands p.image) (unlogged p.card) b)
 
@@ -97,6 +100,7 @@ abbrev pub takes_frame : Party → Wave → List ℕ → Heeded
 takes_frame p wave bytes =
     if same_wave wave (wave_of_kind p.kind) && not (is_halted p.card) then takes_opened p (opened wave bytes) else unmoved p
 
+-- What the card does with a frame that came down, or with none (this project's own).
 abbrev pub takes_down : Party → Wave → Option (List ℕ) → Heeded
 takes_down p wave None = unmoved p
 takes_down p wave (Some bytes) = takes_frame p wave bytes
@@ -130,6 +134,7 @@ moved w h = record {
   exchanges = min (w.exchanges + 1) (2 ^ 64 - 1);
 }
 
+-- What the card on the wire does in the next exchange (this project's own).
 abbrev pub wire_heeds : Wire → Wave → List ℕ → Heeded
 wire_heeds w wave bytes = takes_down w.party wave (heard_down w wave bytes)
 

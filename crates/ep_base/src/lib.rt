@@ -2,6 +2,7 @@
 //! share, and, in `specs/`, the definitions that the contracts of the whole repository cite.
 #![tactic(auto)]
 
+mod activation;
 mod air;
 mod blocks;
 mod buffers;
@@ -11,6 +12,7 @@ mod outcome;
 mod standard;
 mod streams;
 
+pub use activation::{Atqb, AtqbFault, Ats, AtsFault, bit, waiting};
 pub use air::{CardKind, Wave};
 pub use blocks::{BlockFault, Phase};
 pub use buffers::{Buf, FrameBuf, Line, frame_size};

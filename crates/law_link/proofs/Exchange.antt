@@ -16,7 +16,7 @@ use Rattle.law_link.specs.Once.{IsImage, AreFrames, IsIdle, ExactlyOnce, OneComm
 use Rattle.law_link.proofs.Cutting.{AllFit, cut_joins, cut_fits}
 
 -- how far both ends are with a command
-data Place : Type 0 where
+pub data Place : Type 0 where
   -- the card hasn't taken this part of the command; it has those before it
   Before : (last : Option Block) (sent part : List ℕ) (left : List (List ℕ)) → Place
   -- it has, and waits for the next one
@@ -49,16 +49,16 @@ fit_chained : (frame : ℕ) (got inf : List ℕ) → length inf + 3 ≤ frame �
 fit_chained frame got inf a b c = grind (arith, nat_tests)
 
 module _ (frames : Frames) (image : Image) (before : List (List ℕ)) (command : List ℕ) where
-  abbrev after : List (List ℕ)
+  abbrev pub after : List (List ℕ)
   after = before ++ command ∷ []
 
-  abbrev reply : Answered
+  abbrev pub reply : Answered
   reply = image.answer after
 
-  abbrev pieces : Cut
+  abbrev pub pieces : Cut
   pieces = cut (frames.reader - 3) reply.response
 
-  abbrev phase_at : Place → Phase
+  abbrev pub phase_at : Place → Phase
   phase_at (Before last sent part left) = Sending part left
   phase_at (Between sent part next left) = Sending part (next ∷ left)
   phase_at (Working part wtx) = Sending part []
@@ -67,11 +67,11 @@ module _ (frames : Frames) (image : Image) (before : List (List ℕ)) (command :
   phase_at (Given got part others) = Receiving got
 
   -- the reader's number is other m
-  abbrev reader_at : Bool → Place → List Heard → Reader
+  abbrev pub reader_at : Bool → Place → List Heard → Reader
   reader_at m place s = record { number = other m; phase = phase_at place; since = s }
 
   -- the card's number is m where it hasn't taken the reader's block, and other m where it has
-  abbrev card_at : Bool → Place → Card
+  abbrev pub card_at : Bool → Place → Card
   card_at m (Before last sent part left) = record { number = m; last = last; taken = sent; left = Parts []; log = before }
   card_at m (Between sent part next left) = record { number = other m; last = Some (RAck (other m)); taken = sent ++ part; left = Parts []; log = before }
   card_at m (Working part wtx) = record { number = other m; last = Some (Wtx 0 reply.wtxm); taken = []; left = Waits wtx reply.wtxm pieces.first pieces.others; log = after }
@@ -80,7 +80,7 @@ module _ (frames : Frames) (image : Image) (before : List (List ℕ)) (command :
   card_at m (Given got part others) = record { number = other m; last = Some (I (other m) (more others) part); taken = []; left = Parts others; log = after }
 
   -- what the card has just sent
-  abbrev answer_at : Bool → Place → Block
+  abbrev pub answer_at : Bool → Place → Block
   answer_at m (Before last sent part left) = RAck m
   answer_at m (Between sent part next left) = RAck (other m)
   answer_at m (Working part wtx) = Wtx 0 reply.wtxm
@@ -89,7 +89,7 @@ module _ (frames : Frames) (image : Image) (before : List (List ℕ)) (command :
   answer_at m (Given got part others) = I (other m) (more others) part
 
   -- the parts make up the command, or the response
-  abbrev Fine : Place → Type 0
+  abbrev pub Fine : Place → Type 0
   Fine (Before last sent part left) = sent ++ (part ++ concat left) ≡ command
   Fine (Between sent part next left) = (sent ++ part) ++ (next ++ concat left) ≡ command
   Fine (Working part wtx) = Unit {0}
@@ -107,7 +107,7 @@ module _ (frames : Frames) (image : Image) (before : List (List ℕ)) (command :
   Holds (Given got part others) s = Unit {0}
 
   -- what the reader sends before an exchange
-  abbrev Fits : Bool → Place → List Heard → Type 0
+  abbrev pub Fits : Bool → Place → List Heard → Type 0
   Fits m (Before last sent part left) s =
       (count is_wtx s ≡ 0) × ((question (other m) (Sending part left) s ≡ I (other m) (more left) part) ⊎ (question (other m) (Sending part left) s ≡ RNak (other m)))
   Fits m (Between sent part next left) s = question (other m) (Sending part (next ∷ left)) s ≡ RNak (other m)
@@ -119,7 +119,7 @@ module _ (frames : Frames) (image : Image) (before : List (List ℕ)) (command :
   Fits m (Given got part others) s = question (other m) (Receiving got) s ≡ RAck (other m)
 
   -- what it has sent where the card has just answered
-  abbrev Answers : Bool → Place → List Heard → Type 0
+  abbrev pub Answers : Bool → Place → List Heard → Type 0
   Answers m (Before last sent part left) s = (count is_wtx s ≡ 0) × (question (other m) (Sending part left) s ≡ RNak (other m))
   Answers m (Between sent part next left) s = Unit {0}
   Answers m (Working part wtx) s = count is_wtx s + wtx + 1 ≤ reply.wtx + count is_bad s
@@ -128,14 +128,14 @@ module _ (frames : Frames) (image : Image) (before : List (List ℕ)) (command :
   Answers m (Given got part others) s = Unit {0}
 
   -- what the reader does next, and the card then
-  abbrev GoodTurn : Turn → Card → Type 0
+  abbrev pub GoodTurn : Turn → Card → Type 0
   GoodTurn (Asks r) card =
       (m : Bool) × (place : Place) × (s : List Heard) × Fine place × Fits m place s × (count is_bad s ≤ 2) × (r ≡ reader_at m place s) × (card ≡ card_at m place)
   GoodTurn (Gives response r) card = (response ≡ reply.response) × (card.log ≡ after) × IsIdle r card
   GoodTurn (Spends r) card = (count is_bad r.since ≡ 3) × ((card.log ≡ before) ⊎ (card.log ≡ after))
   GoodTurn (Breaks r) card = ⊥
 
-  log_at : (m : Bool) (place : Place) → ((card_at m place).log ≡ before) ⊎ ((card_at m place).log ≡ after)
+  pub log_at : (m : Bool) (place : Place) → ((card_at m place).log ≡ before) ⊎ ((card_at m place).log ≡ after)
   log_at m (Before last sent part left) = inl refl
   log_at m (Between sent part next left) = inl refl
   log_at m (Working part wtx) = inr refl
@@ -202,12 +202,12 @@ module _ (frames : Frames) (image : Image) (before : List (List ℕ)) (command :
       rw (same_true (other m)) (receives is m _ s _ got part others fine.0 fine.1)
 
   -- the card has heard the frame
-  record Taken (m : Bool) (place : Place) (s : List Heard) : Type 0 where
-    next : Place
-    fine : Fine next
-    answers : Answers m next s
-    phase : phase_at next ≡ phase_at place
-    is : card_hears frames.reader image (card_at m place) (question (other m) (phase_at place) s) ≡ record { card = card_at m next; block = Some (answer_at m next) }
+  pub record Taken (m : Bool) (place : Place) (s : List Heard) : Type 0 where
+    pub next : Place
+    pub fine : Fine next
+    pub answers : Answers m next s
+    pub phase : phase_at next ≡ phase_at place
+    pub is : card_hears frames.reader image (card_at m place) (question (other m) (phase_at place) s) ≡ record { card = card_at m next; block = Some (answer_at m next) }
 
   -- the card executes the command
   executed : (m : Bool) (last : Option Block) (sent part : List ℕ) (s : List Heard) → count is_wtx s ≡ 0 → (k : ℕ) → reply.wtx ≡ k → (next : Place) × Fine next × Answers m next s × (phase_at next ≡ Sending part []) × (sends_first (other m) k reply.wtxm pieces after ≡ record { card = card_at m next; block = Some (answer_at m next) })
@@ -218,7 +218,7 @@ module _ (frames : Frames) (image : Image) (before : List (List ℕ)) (command :
   asks : (m : Bool) (place : Place) (s : List Heard) (block : Block) (a : Answer) → question (other m) (phase_at place) s ≡ block → card_hears frames.reader image (card_at m place) block ≡ a → card_hears frames.reader image (card_at m place) (question (other m) (phase_at place) s) ≡ a
   asks m place s block a e h = ap (λ (b : Block). card_hears frames.reader image (card_at m place) b) e ∙ h
 
-  taken : IsImage image → image.is_command command ≡ true → (m : Bool) (place : Place) (s : List Heard) → Fine place → Fits m place s → Taken m place s
+  pub taken : IsImage image → image.is_command command ≡ true → (m : Bool) (place : Place) (s : List Heard) → Fine place → Fits m place s → Taken m place s
   taken is legal m (Before last sent part []) s fine fits =
       let whole : sent ++ part ≡ command = ap (λ l. sent ++ l) (sym (append-nil part)) ∙ fine in
       let most : length (sent ++ part) ≤ 261 = rw whole (is.commands command legal) in
@@ -263,7 +263,7 @@ module _ (frames : Frames) (image : Image) (before : List (List ℕ)) (command :
       subst (λ (a : Answer). GoodTurn (hears_answer up frames r a) a.card) (sym t.is) here
 
   -- one exchange
-  exchange : AreFrames frames → IsImage image → image.is_command command ≡ true → (m : Bool) (place : Place) (s : List Heard) → Fine place → Fits m place s → count is_bad s ≤ 2 → (down up : Bool) → GoodTurn (hears_answer up frames (reader_at m place s) (goes_down down frames image (card_at m place) (asked (reader_at m place s)))) (goes_down down frames image (card_at m place) (asked (reader_at m place s))).card
+  pub exchange : AreFrames frames → IsImage image → image.is_command command ≡ true → (m : Bool) (place : Place) (s : List Heard) → Fine place → Fits m place s → count is_bad s ≤ 2 → (down up : Bool) → GoodTurn (hears_answer up frames (reader_at m place s) (goes_down down frames image (card_at m place) (asked (reader_at m place s)))) (goes_down down frames image (card_at m place) (asked (reader_at m place s))).card
   exchange sized is legal m place s fine fits le false true = bad_turn m place s fine (holds_fits m place s fits) le
   exchange sized is legal m place s fine fits le false false = bad_turn m place s fine (holds_fits m place s fits) le
   exchange sized is legal m place s fine fits le true true =

@@ -1,0 +1,93 @@
+//! The card's end of a link, as it is called.
+ghost use Rattle.std.specs.Prelude.{◌≡◌, ℕ, ◌≤◌, List};
+ghost use Rattle.std.specs.Option.{option_copied};
+ghost use Rattle.ep_base.specs.BlockField.{fresh_card};
+ghost use Rattle.ep_base.specs.CardEnd.{Card, answers, is_halted};
+ghost use Rattle.block_card.specs.declared.held.CardNext.TheVariants as next;
+ghost use Rattle.block_card.specs.Held.{IsCard, held_card, card_of, kind_of, fsd_of};
+ghost use Rattle.block_card.specs.Shows.{Answers, ShowsFrame};
+
+use crate::held::{CardEnd, CardNext, Last};
+use apdu::Response;
+use arrayvec::ArrayVec;
+use block_pcb::decode;
+use ep_base::{CardKind, FrameBuf};
+
+impl CardEnd {
+    /// The end of a card of this kind that was just activated, whose reader has frames of this size: one that
+    /// `frame_size` gives, which is 16 to 256 bytes.
+    pub fn open(kind: CardKind, fsd: u16) -> CardEnd
+        requires least { 16 ≤ fsd }
+        requires most { fsd ≤ 256 }
+        ensures by_rules { IsCard (held_card result) fresh_card }
+        ensures card { card_of (held_card result) ≡ fresh_card }
+        ensures kind { kind_of result ≡ kind }
+        ensures kept { fsd_of result ≡ fsd }
+    {
+        CardEnd {
+            kind,
+            fsd,
+            number: true,
+            last: Last::Nothing,
+            taken: ArrayVec::new(),
+            response: ArrayVec::new(),
+            place: 0,
+            waiting: false,
+            wtx: 0,
+            wtxm: 1,
+        }
+    }
+
+    /// Takes the bytes of a frame without its check, `None` for a damaged frame, and does with them what the card's
+    /// rules say (ISO/IEC 14443-4). A damaged frame, bytes that are no block, and all that comes after S(DESELECT)
+    /// leave the end as it is, and nothing is sent. Bytes that are no command are answered `6700` at once. After
+    /// `Execute` the next call is `answer`.
+    pub fn receive(&mut self, payload: Option<&[u8]>) -> CardNext
+        ensures by_rules { (c : Card) → IsCard (held_card self.old) c → ShowsFrame result (held_card self.old) (held_card self.new) c (option_copied payload.entry) }
+        ensures kind { kind_of self.new ≡ kind_of self.old }
+        ensures kept { fsd_of self.new ≡ fsd_of self.old }
+    {
+        let Some(message) = payload else {
+            return CardNext::Mute;
+        };
+        if self.halted() {
+            return CardNext::Mute;
+        }
+        match decode(message) {
+            Ok(block) => {
+                let step = self.receive_block(&block);
+                self.follow(step)
+            }
+            Err(_) => CardNext::Mute,
+        }
+    }
+
+    /// The answer to the command that the last call gave for execution: the first S(WTX) where `wtx`, at most 8, is
+    /// above 0, else the first part of the response. WTXM is 1 to 59.
+    pub fn answer(&mut self, response: &Response, wtx: u8, wtxm: u8) -> FrameBuf
+        requires waits { wtx ≤ 8 }
+        requires least { 1 ≤ wtxm }
+        requires most { wtxm ≤ 59 }
+        ensures by_rules { (log : List (List ℕ)) → Answers (next.Send result) (held_card self.new) log
+            (answers (held_card self.old).fsd (held_card self.old).number (record { response = response.now; wtx = wtx; wtxm = wtxm }) log) }
+        ensures kind { kind_of self.new ≡ kind_of self.old }
+        ensures kept { fsd_of self.new ≡ fsd_of self.old }
+    {
+        self.begin(response, wtx, wtxm);
+        self.last_frame()
+    }
+
+    /// Whether the card was halted by S(DESELECT).
+    pub fn halted(&self) -> bool
+        ensures by_rules { (c : Card) → IsCard (held_card self.now) c → result ≡ is_halted c }
+    {
+        matches!(self.last, Last::Deselected)
+    }
+
+    /// The card's kind.
+    pub fn kind(&self) -> CardKind
+        ensures value { result ≡ kind_of self.now }
+    {
+        self.kind
+    }
+}

@@ -1,0 +1,34 @@
+-- A reader in a poll round.
+use Rattle.std.specs.Prelude.{◌≡◌, ℕ, List, [], Option, Some, None}
+use Rattle.ep_base.specs.declared.air.Wave.TheVariants.{B}
+use Rattle.ep_base.specs.Hearing.{Asked, asks, Hearing, Turn, Ends, Broken, place_of}
+use Rattle.ep_base.specs.Round.{Stage, round_asks, round_hears, round_after}
+
+-- Its FSDI, and what it sent last while the round goes on.
+pub record PollState : Type 0 where
+  pub fsdi : ℕ
+  pub stage : Option Stage
+
+-- The next frame, where the round goes on.
+abbrev pub asked_in : ℕ → Option Stage → Asked
+asked_in fsdi (Some stage) = round_asks fsdi stage
+asked_in fsdi None = asks B []
+
+abbrev pub asked : PollState → Asked
+asked p = asked_in p.fsdi p.stage
+
+-- The next frame after these answers, where the round goes on.
+abbrev pub asked_after : ℕ → List Hearing → Asked
+asked_after fsdi answers = asked_in fsdi (place_of (round_after answers))
+
+-- What follows a hearing, where the round goes on.
+abbrev pub turn_in : Option Stage → Hearing → Turn Stage
+turn_in (Some stage) heard = round_hears stage heard
+turn_in None heard = Ends Broken
+
+abbrev pub turn : PollState → Hearing → Turn Stage
+turn p heard = turn_in p.stage heard
+
+-- The round stands where these answers lead.
+abbrev pub StandsFor : PollState → List Hearing → Type 0
+StandsFor p answers = p.stage ≡ place_of (round_after answers)

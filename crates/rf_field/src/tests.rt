@@ -1,0 +1,1 @@
+//! One card under fates, exchange by exchange.

@@ -1,0 +1,18 @@
+-- What a reader's fields mean.
+use Rattle.std.specs.Prelude.{ℕ, ◌<◌, List}
+use Rattle.type_b.specs.Reader.{ReaderState, Place, New, At, Over}
+use Rattle.type_b.specs.declared.reader.BReader.TheInside.{Inside}
+use Rattle.type_b.specs.declared.reader.Step.{Step}
+use Rattle.type_b.specs.declared.reader.Step.TheVariants as steps
+
+-- Where it stands, with what the ATQB said.
+abbrev pub place_by : Step → List ℕ → ℕ → ℕ → Place
+place_by steps.Woken pupi fsc fwi = New
+place_by steps.Attrib pupi fsc fwi = At (record { pupi = pupi; fsc = fsc; fwi = fwi })
+place_by steps.Over pupi fsc fwi = Over
+
+abbrev pub reader_state : Inside → ReaderState
+reader_state r = record { fsdi = r.fsdi; place = place_by r.step r.pupi r.fsc r.fwi }
+
+abbrev pub ReaderFits : Inside → Type 0
+ReaderFits r = r.fsdi < 16
