@@ -1,12 +1,9 @@
 -- The fates that are left of a list of runs.
-use Rattle.std.proofs.Common.{◌≡◌, ℕ, zero, suc, ◌+◌, ◌-◌, ◌<◌, ◌≤◌, List, [], ◌∷◌, ◌++◌, length, drop, get_or, All, Some, replicate, refl, sym, ap, ◌∙◌, subst, arith}
-use Rattle.std.specs.Prelude.{slice_get}
-use Rattle.std.proofs.lemmas.Option.{slice_get_within, get_or_from_slice_get}
+use Rattle.std.proofs.Common.{◌≡◌, ℕ, zero, suc, ◌+◌, ◌-◌, ◌<◌, ◌≤◌, List, ◌++◌, length, drop, get_or, All, replicate, refl, sym, ap, ◌∙◌, subst, arith}
 use Rattle.std.proofs.lemmas.List.{at_drop_more}
 use Rattle.std.proofs.lemmas.List.Elements.{All-get_or}
 use Rattle.ep_base.specs.Air.{Passage, next_fate, fates_after}
 use Rattle.rf_field.specs.declared.fates.FateRun.{FateRun}
-use Rattle.rf_field.specs.declared.fates.FateRun.TheVariants.{Clean, One}
 use Rattle.rf_field.specs.Meaning.{IsRun, clean_passage, run_of, passages}
 
 pub left_at : (runs : List FateRun) (at clean : ℕ) (run is_run : FateRun) (now : List Passage) → clean ≡ 0 → at < length runs → run ≡ get_or runs at run → run ≡ is_run → replicate clean clean_passage ++ passages (drop at runs) ≡ now → run_of is_run ++ passages (drop (at + 1) runs) ≡ now

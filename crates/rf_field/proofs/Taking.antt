@@ -1,12 +1,12 @@
 -- What a card does with a frame, by what its end of the link did.
-use Rattle.std.proofs.Common.{◌≡◌, ℕ, Bool, true, false, not, if◌then◌else◌, List, [], ◌∷◌, ◌++◌, Option, Some, None, refl, sym, ap, ◌∙◌, subst}
+use Rattle.std.proofs.Common.{◌≡◌, ℕ, Bool, true, false, not, if◌then◌else◌, List, [], ◌∷◌, Option, Some, None, refl, sym, ap, ◌∙◌, subst}
 use Rattle.arrayvec.specs.ArrayVec.{ArrayVec}
 use Rattle.ep_base.specs.declared.air.CardKind.{CardKind}
 use Rattle.ep_base.specs.Hearing.{Framed, wave_of_kind}
 use Rattle.ep_base.specs.Block.{Block}
 use Rattle.ep_base.specs.Spelling.{Read, Reads, Refuses, read_block}
 use Rattle.ep_base.specs.BlockField.{records}
-use Rattle.ep_base.specs.CardAnswer.{Image, Answered, card_answer}
+use Rattle.ep_base.specs.CardAnswer.{Image, card_answer}
 use Rattle.ep_base.specs.CardEnd.{Card, card_hears, answers, is_halted}
 use Rattle.ep_base.specs.CardEnd as Ends
 use Rattle.ep_base.specs.Wire.{Heeded, unmoved, by_commands, image_after, maybe_frame, answers_by, takes_read, takes_opened}
@@ -14,7 +14,7 @@ use Rattle.ep_base.specs.Wire as plain
 use Rattle.block_card.specs.declared.held.CardNext.{CardNext}
 use Rattle.block_card.specs.declared.held.CardNext.TheVariants.{Mute, Send, Execute}
 use Rattle.block_card.specs.Held.{HeldCard, IsCard, card_of}
-use Rattle.block_card.specs.Shows.{Says, Answers, Shows, Stays, ShowsRead, ShowsOpen, ShowsFrame}
+use Rattle.block_card.specs.Shows.{Answers, Shows, Stays, ShowsRead, ShowsOpen, ShowsFrame}
 use Rattle.rf_field.specs.Parties.{party_by, takes_awake}
 
 -- an end stands for its own card

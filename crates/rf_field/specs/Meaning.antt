@@ -1,5 +1,5 @@
 -- What the fates of frames stand for in plain data.
-use Rattle.std.specs.Prelude.{ℕ, ◌≤◌, List, [], ◌∷◌, ◌++◌, replicate}
+use Rattle.std.specs.Prelude.{◌≤◌, List, [], ◌∷◌, ◌++◌, replicate}
 use Rattle.ep_base.specs.Air.{Leg, Passes, Loses, Bursts, Leaves, Passage}
 use Rattle.rf_field.specs.declared.fates.Way.{Way}
 use Rattle.rf_field.specs.declared.fates.Way.TheVariants as way

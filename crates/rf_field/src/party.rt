@@ -18,16 +18,6 @@ pub(crate) struct Party {
     image: CardImage,
 }
 
-// The wave of a kind's frames with check bytes.
-fn wave_of(kind: CardKind) -> Wave
-    ensures { result ≡ wave_of_kind kind }
-{
-    match kind {
-        CardKind::A => Wave::A,
-        CardKind::B => Wave::B,
-    }
-}
-
 impl Party {
     // A card that was just activated by a reader with frames of 16 to 256 bytes.
     pub(crate) fn open(kind: CardKind, fsd: u16, image: CardImage) -> Party
@@ -68,7 +58,7 @@ impl Party {
         ensures logged { log.new ≡ (log.old.0 ++ (takes_frame (party_of self.old) wave frame.now.items).executed, log.old.1) }
         ensures answer { result ≡ (takes_frame (party_of self.old) wave frame.now.items).answer }
     {
-        if wave != wave_of(self.end.kind()) {
+        if wave != self.end.wave() {
             return None;
         }
         let frame = self.take(open_frame(wave, frame), log)?;

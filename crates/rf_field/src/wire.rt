@@ -112,12 +112,11 @@ impl Medium for Wire {
     }
 
     /// Makes one exchange. There is no error.
-    fn send(&mut self, wave: Wave, frame: &FrameBuf, wait: u32) -> Result<Heard, RfFailed>
-        ensures step { (told plain.wire).sends (wire_of self.old) wave frame.now.items wait (maybe_heard result) (wire_of self.new) }
+    fn send(&mut self, wave: Wave, frame: &FrameBuf, _wait: u32) -> Result<Heard, RfFailed>
+        ensures step { (told plain.wire).sends (wire_of self.old) wave frame.now.items _wait (maybe_heard result) (wire_of self.new) }
         ensures cause { HasCause 0 0 (IsErr result) }
         ensures always { IsOk result }
     {
-        let _wait = wait;
         let fate = self.fates.next();
         let answer = self.carry_down(fate.down, wave, frame);
         self.gone = self.gone || fate.down == Way::Leave || fate.up == Way::Leave;

@@ -1,4 +1,4 @@
-use Rattle.std.proofs.Common.{◌≡◌, ◌∷◌, ◌++◌, [], ℕ, List, append-nil, refl, sym, ap, ◌∙◌, subst}
+use Rattle.std.proofs.Common.{◌++◌, ℕ, List, append-nil, sym, ap, ◌∙◌, subst}
 use Rattle.std.specs.Option.{option_copied}
 use Rattle.ep_base.specs.CardAnswer.{Answered, card_answer}
 use Rattle.ep_base.specs.CardEnd.{answers}
@@ -6,7 +6,6 @@ use Rattle.ep_base.specs.Wire.{Heeded}
 use Rattle.block_card.specs.declared.held.CardNext.TheVariants.{Send}
 use Rattle.block_card.specs.Held.{held_card, card_of}
 use Rattle.block_card.specs.Shows.{Answers}
-use Rattle.rf_field.specs.Parties.{party_of, takes_awake}
 use Rattle.rf_field.proofs.Taking.{own_card, takes_mute, takes_send, takes_execute}
 use Rattle.rf_field.proofs.party.Party.take.Goals as goal
 
