@@ -1,5 +1,5 @@
 -- What a card's fields mean.
-use Rattle.std.specs.Prelude.{◌≡◌, ℕ, ◌≤◌}
+use Rattle.std.specs.Prelude.{◌≤◌}
 use Rattle.ep_base.specs.TypeA.{APlan, levels}
 use Rattle.ep_base.specs.TypeA as rule
 use Rattle.type_a.specs.Card.{CardState}

@@ -1,5 +1,5 @@
 -- A reader in a round with a card of Type A.
-use Rattle.std.specs.Prelude.{ℕ, List, [], ◌∷◌, Option, Some, None, ◌≡◌}
+use Rattle.std.specs.Prelude.{ℕ, List, [], Option, Some, None}
 use Rattle.ep_base.specs.declared.air.Wave.TheVariants.{AShort}
 use Rattle.ep_base.specs.Hearing.{Asked, asks, Hearing, Turn, Ends, Broken}
 use Rattle.ep_base.specs.TypeA.{AStage, Woken, Level, Select, Complete, a_asks, a_says, a_hears}
