@@ -1,4 +1,4 @@
--- The bounds of what a reader's end holds.
+-- The bounds of what a reader's end holds (this project's own).
 use Rattle.std.specs.Prelude.{◌≡◌, Bool, true, false, ℕ, ◌+◌, ◌*◌, ◌≤◌}
 use Rattle.block_reader.specs.declared.stages.Stage.{Stage}
 use Rattle.block_reader.specs.declared.stages.Stage.TheVariants as stage

@@ -1,4 +1,4 @@
--- When the progress of a command stands for a state of the rules.
+-- When the progress of a command stands for a state of the rules (this project's own).
 use Rattle.std.specs.Prelude.{◌≡◌, ℕ, ◌+◌, ◌-◌, ◌<◌, ◌≤◌, nat_lt, Bool, true, false, List, [], length, take, drop}
 use Rattle.ep_base.specs.Block.{Block, I, RAck, RNak, Wtx, Heard, other, is_bad, is_wtx, count}
 use Rattle.ep_base.specs.Parts.{cut}
@@ -24,6 +24,7 @@ pub record Course : Type 0 where
   pub place : ℕ
   pub got : List ℕ
 
+-- What a progress holds, in plain data (this project's own).
 abbrev pub course : Progress → Course
 course p = record {
   card_frame = p.card_frame;
@@ -46,9 +47,11 @@ phase_by stage.Receiving size command place got = rules.Receiving got
 phase_by stage.Failed size command place got = rules.Idle
 phase_by stage.Closed size command place got = rules.Idle
 
+-- The phase of a progress (this project's own).
 abbrev pub phase_of : Course → rules.Phase
 phase_of e = phase_by e.stage (e.card_frame - 3) e.command e.place e.got
 
+-- The block of a question (this project's own).
 abbrev pub block_by : Question → Bool → ℕ → List ℕ → ℕ → Block
 block_by question.Part number size command place = I number (nat_lt (place + size) (length command)) (take size (drop place command))
 block_by question.Ack number size command place = RAck number
@@ -86,27 +89,32 @@ pub record Goes (e : Course) (h : Heard) (r q : rules.Reader) : Type 0 where
   pub sends : Sends e q
   pub same : q ≡ rules.kept h r
 
+-- The number was toggled, and nothing was heard since (this project's own).
 pub record Toggles (e : Course) (r q : rules.Reader) : Type 0 where
   pub sends : Sends e q
   pub number : q.number ≡ other r.number
   pub fresh : q.since ≡ []
 
+-- The response is whole, and no command is open (this project's own).
 pub record Ends (e : Course) (response : List ℕ) (r q : rules.Reader) : Type 0 where
   pub got : e.got ≡ response
   pub state : IsAt e q
   pub closed : e.stage ≡ stage.Resting
   pub fresh : q.since ≡ []
 
+-- The link is spent with this hearing (this project's own).
 pub record Fails (e : Course) (h : Heard) (r q : rules.Reader) : Type 0 where
   pub same : q ≡ rules.kept h r
   pub number : q.number ≡ e.number
   pub bad : e.bad ≡ count is_bad q.since
   pub three : e.bad ≡ 3
 
+-- The rules are broken, and the reader is as before (this project's own).
 pub record Breaks (e : Course) (r q : rules.Reader) : Type 0 where
   pub same : q ≡ r
   pub state : IsAt e q
 
+-- A step is what the reader's table says of this hearing (this project's own).
 abbrev pub StepShows : Step → Course → Heard → rules.Reader → rules.Turn → Type 0
 StepShows step.Again e h r (rules.Asks q) = Goes e h r q
 StepShows step.Toggled e h r (rules.Asks q) = Toggles e r q

@@ -1,4 +1,4 @@
--- When a reader's end stands for a state of the rules, and what it says then.
+-- When a reader's end stands for a state of the rules, and what it says then (this project's own).
 use Rattle.std.specs.Prelude.{◌≡◌, ◌⊎◌, ℕ, Bool, true, false, List, [], ◌∷◌, reverse}
 use Rattle.ep_base.specs.Hearing.{Hearing}
 use Rattle.ep_base.specs.Block.{Heard, is_bad, count}
@@ -21,6 +21,7 @@ pub record Held : Type 0 where
   pub course : Course
   pub since : List Kept
 
+-- What an end holds, in plain data (this project's own).
 abbrev pub held : ReaderEnd → Held
 held e = record {
   set = record { kind = e.kind; frames = record { card = e.progress.card_frame; reader = e.progress.frame }; fwi = e.fwi };
@@ -123,6 +124,7 @@ asks_on (Ask a) = true
 asks_on (Done response) = false
 asks_on (Failed end) = false
 
+-- Whether the response is whole (this project's own).
 abbrev pub is_done : Next → Bool
 is_done (Ask a) = false
 is_done (Done response) = true

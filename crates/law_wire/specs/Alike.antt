@@ -1,4 +1,4 @@
--- A command over a medium that carries a link's blocks as a wire does.
+-- A command over a medium that carries a link's blocks as a wire does (this project's own).
 use Rattle.std.specs.Prelude.{◌≡◌, ℕ, Bool, true, List}
 use Rattle.ep_base.specs.Apdu.{is_command}
 use Rattle.ep_base.specs.Hearing.{Hearing}

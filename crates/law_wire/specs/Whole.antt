@@ -1,4 +1,4 @@
--- Over a wire a block comes as it was sent, or not at all.
+-- Over a wire a block comes as it was sent, or not at all (this project's own).
 use Rattle.std.specs.Prelude.{◌≡◌, ◌⊎◌, ℕ, ◌≤◌, true}
 use Rattle.ep_base.specs.declared.air.CardKind.{CardKind}
 use Rattle.ep_base.specs.Hearing.{Silence, Frame, wave_of_kind}

@@ -1,4 +1,4 @@
--- What the fates of frames stand for in plain data.
+-- What the fates of frames stand for in plain data (this project's own).
 use Rattle.std.specs.Prelude.{◌≤◌, List, [], ◌∷◌, ◌++◌, replicate}
 use Rattle.ep_base.specs.Air.{Leg, Passes, Loses, Bursts, Leaves, Passage}
 use Rattle.rf_field.specs.declared.fates.Way.{Way}
@@ -27,6 +27,7 @@ abbrev pub run_of : FateRun → List Passage
 run_of (Clean count) = replicate count clean_passage
 run_of (One fate) = passage_of fate ∷ []
 
+-- The exchanges of all runs, one by one (this project's own).
 abbrev pub passages : List FateRun → List Passage
 passages [] = []
 passages (run ∷ runs) = run_of run ++ passages runs

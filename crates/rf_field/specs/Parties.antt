@@ -1,4 +1,4 @@
--- What a card in the block protocol stands for in plain data.
+-- What a card in the block protocol stands for in plain data (this project's own).
 use Rattle.std.specs.Prelude.{ℕ, not, if◌then◌else◌, List, Option}
 use Rattle.ep_base.specs.CardEnd.{is_halted}
 use Rattle.ep_base.specs.CardAnswer.{Image}
@@ -11,6 +11,7 @@ use Rattle.rf_field.specs.declared.party.Party.{Party}
 abbrev pub party_by : HeldCard → Image → plain.Party
 party_by e image = record { kind = e.kind; fsd = e.fsd; card = card_of e; image = image }
 
+-- A card with its end of the link and its image, in plain data (this project's own).
 abbrev pub party_of : Party → plain.Party
 party_of p = party_by (held_card p.end) p.image
 

@@ -1,4 +1,4 @@
--- What a wire stands for in plain data.
+-- What a wire stands for in plain data (this project's own).
 use Rattle.std.specs.Prelude.{ℕ, nat_lt, not, ◌&&◌, if◌then◌else◌, List, length, None}
 use Rattle.ep_base.specs.declared.air.Wave.{Wave}
 use Rattle.ep_base.specs.Air.{Leg}
@@ -7,6 +7,7 @@ use Rattle.ep_base.specs.Wire.{Heeded, takes_down, comes_down}
 use Rattle.rf_field.specs.declared.wire.Wire.{Wire}
 use Rattle.rf_field.specs.Parties.{party_of}
 
+-- A wire in plain data (this project's own).
 abbrev pub wire_of : Wire → plain.Wire
 wire_of w = record {
   party = party_of w.party;
