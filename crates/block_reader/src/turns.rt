@@ -1,5 +1,6 @@
 //! A reader's end: how a command begins, what a hearing leads to, and how the link is closed.
 ghost use Rattle.std.specs.Prelude.{◌≡◌, ◌≤◌, ◌<◌, ◌++◌, ◌&&◌, nat_le, [], ◌∷◌, true, List, length};
+ghost use Rattle.ep_base.specs.Apdu.{is_command};
 ghost use Rattle.ep_base.specs.Block.{is_bad, Deselect};
 ghost use Rattle.ep_base.specs.Dialogue.{block_of, opened};
 ghost use Rattle.ep_base.specs.FrameSize as sizes;
@@ -82,6 +83,7 @@ impl ReaderEnd {
             × (result ≡ block_ask (held self.old).set.kind (held self.old).set.fwi (asked (begun (held self.old).set.frames.card command.now r))) }
         ensures setting { (held self.new).set ≡ (held self.old).set }
         ensures open { is_open (held self.new) ≡ true }
+        ensures legal { is_command command.now ≡ true }
         ensures stands { (es : List LinkEvent) → StandsFor (held self.old) es →
             StandsFor (held self.new) (es ++ Begins command.now ∷ [])
             × (result ≡ block_ask (held self.old).set.kind (held self.old).set.fwi (block_of (standing_after (held self.old).set (es ++ Begins command.now ∷ [])).turn)) }
