@@ -1,5 +1,5 @@
 -- The bounds of what a reader's end holds (this project's own).
-use Rattle.std.specs.Prelude.{◌≡◌, Bool, true, false, ℕ, ◌+◌, ◌*◌, ◌≤◌}
+use Rattle.std.specs.Prelude.{◌≡◌, Bool, true, false, ℕ, ◌+◌, ◌-◌, ◌*◌, ◌<◌, ◌≤◌}
 use Rattle.block_reader.specs.declared.stages.Stage.{Stage}
 use Rattle.block_reader.specs.declared.stages.Stage.TheVariants as stage
 use Rattle.block_reader.specs.declared.stages.Question.{Question}
@@ -74,3 +74,19 @@ is_resting stage.Sending = false
 is_resting stage.Receiving = false
 is_resting stage.Failed = false
 is_resting stage.Closed = false
+
+-- What is ahead of an open command, with so many bytes, of which so many were acknowledged, and so many of the response: each toggle leaves less.
+abbrev pub ahead : Stage → ℕ → ℕ → ℕ → ℕ
+ahead stage.Resting command place got = 0
+ahead stage.Sending command place got = command - place + 259
+ahead stage.Receiving command place got = 259 - got
+ahead stage.Failed command place got = 0
+ahead stage.Closed command place got = 0
+
+-- What is ahead after a step that asks on.
+abbrev pub AheadAfter : Step → ℕ → ℕ → Type 0
+AheadAfter step.Again before now = now ≡ before
+AheadAfter step.Toggled before now = now < before
+AheadAfter step.Done before now = Unit {0}
+AheadAfter step.Spent before now = Unit {0}
+AheadAfter step.Breach before now = Unit {0}

@@ -1,5 +1,5 @@
 -- When a reader's end stands for a state of the rules, and what it says then (this project's own).
-use Rattle.std.specs.Prelude.{◌≡◌, ◌⊎◌, ℕ, Bool, true, false, List, [], ◌∷◌, reverse}
+use Rattle.std.specs.Prelude.{◌≡◌, ℕ, ◌+◌, ◌-◌, ◌*◌, Bool, true, false, List, [], ◌∷◌, length, reverse}
 use Rattle.ep_base.specs.Hearing.{Hearing}
 use Rattle.ep_base.specs.Block.{Heard, is_bad, count}
 use Rattle.ep_base.specs.ReaderEnd.{Reader, Idle, Turn, Asks, Gives, Spends, Breaks, asked}
@@ -129,3 +129,7 @@ abbrev pub is_done : Next → Bool
 is_done (Ask a) = false
 is_done (Done response) = true
 is_done (Failed end) = false
+
+-- What bounds the exchanges that a command still takes: each hearing that is asked on leaves less.
+abbrev pub left_of : Held → ℕ
+left_of e = 32 * counts.ahead e.course.stage (length e.course.command) e.course.place (length e.course.got) + (32 - length e.since)

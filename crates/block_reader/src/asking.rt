@@ -1,6 +1,7 @@
 //! The blocks that a reader's end sends.
 ghost use Rattle.std.specs.Prelude.{◌≡◌, ◌≤◌, true, []};
 ghost use Rattle.arrayvec.specs.ArrayVec.{array_vec_len};
+ghost use Rattle.ep_base.specs.Apdu.{is_command};
 ghost use Rattle.ep_base.specs.LinkFrames.{block_ask, wait_of};
 ghost use Rattle.ep_base.specs.ReaderEnd as rules;
 ghost use Rattle.block_pcb.specs.Meaning.{block_of, InRange};
@@ -75,6 +76,7 @@ impl Progress {
     pub(crate) fn begin(&mut self, command: &Command)
         ensures by_rules { (r : rules.Reader) → IsAt (course self.old) r → r.since ≡ [] →
             Sends (course self.new) (rules.begin self.old.card_frame command.now r) }
+        ensures legal { is_command command.now ≡ true }
         ensures counts { (is_open self.new.stage ≡ true) × (spare self.new.question ≡ 0) × (self.new.bad ≡ self.old.bad) × (self.new.wtx ≡ self.old.wtx) }
         ensures kept { Keeps self.old self.new }
     {

@@ -1,8 +1,9 @@
 //! What each hearing leads to while a command is open.
 ghost use Rattle.std.specs.Prelude.{◌≡◌, ◌≤◌, ◌&&◌, ℕ, nat_le, true, false};
+ghost use Rattle.arrayvec.specs.ArrayVec.{array_vec_len};
 ghost use Rattle.ep_base.specs.Block as rule;
 ghost use Rattle.ep_base.specs.ReaderEnd as rules;
-ghost use Rattle.block_reader.specs.Counts.{Counted, CountsAfter, is_open};
+ghost use Rattle.block_reader.specs.Counts.{ahead, AheadAfter, Counted, CountsAfter, is_open};
 ghost use Rattle.block_reader.specs.Progress.{course, is_spent, IsWhole, Keeps, Sends, StepShows};
 ghost use Rattle.block_reader.specs.Said.{said_of, SaysInRange};
 
@@ -17,6 +18,7 @@ impl Progress {
         requires open { is_open self.old.stage ≡ true }
         ensures by_rules { (r : rules.Reader) → Sends (course self.old) r → StepShows result (course self.new) rule.Bad r (rules.on_bad (rules.kept rule.Bad r)) }
         ensures counts { (len : ℕ) → Counted self.old.question self.old.bad self.old.wtx len → CountsAfter result self.new.stage self.new.question self.new.bad self.new.wtx len }
+        ensures ahead { AheadAfter result (ahead self.old.stage (array_vec_len self.old.command) self.old.place (array_vec_len self.old.got)) (ahead self.new.stage (array_vec_len self.new.command) self.new.place (array_vec_len self.new.got)) }
         ensures kept { Keeps self.old self.new }
         ensures spent { is_spent result ≡ nat_le 2 self.old.bad }
         ensures whole { IsWhole result self.new.got.items }
@@ -40,6 +42,7 @@ impl Progress {
         ensures by_rules { (r : rules.Reader) → Sends (course self.old) r →
             StepShows result (course self.new) (rule.Intact (rule.Wtx power wtxm)) r (rules.on_wtx (rule.Intact (rule.Wtx power wtxm)) r) }
         ensures counts { (len : ℕ) → Counted self.old.question self.old.bad self.old.wtx len → CountsAfter result self.new.stage self.new.question self.new.bad self.new.wtx len }
+        ensures ahead { AheadAfter result (ahead self.old.stage (array_vec_len self.old.command) self.old.place (array_vec_len self.old.got)) (ahead self.new.stage (array_vec_len self.new.command) self.new.place (array_vec_len self.new.got)) }
         ensures kept { Keeps self.old self.new }
         ensures spent { is_spent result ≡ false }
         ensures whole { IsWhole result self.new.got.items }
@@ -59,6 +62,7 @@ impl Progress {
         ensures by_rules { (r : rules.Reader) → Sends (course self.old) r →
             StepShows result (course self.new) (rule.Intact (rule.RAck number)) r (rules.reader_hears self.old.frame r (rule.Intact (rule.RAck number))) }
         ensures counts { (len : ℕ) → Counted self.old.question self.old.bad self.old.wtx len → CountsAfter result self.new.stage self.new.question self.new.bad self.new.wtx len }
+        ensures ahead { AheadAfter result (ahead self.old.stage (array_vec_len self.old.command) self.old.place (array_vec_len self.old.got)) (ahead self.new.stage (array_vec_len self.new.command) self.new.place (array_vec_len self.new.got)) }
         ensures kept { Keeps self.old self.new }
         ensures spent { is_spent result ≡ false }
         ensures whole { IsWhole result self.new.got.items }
@@ -97,6 +101,7 @@ impl Progress {
         ensures by_rules { (r : rules.Reader) → Sends (course self.old) r →
             StepShows result (course self.new) (said_of said.entry) r (rules.reader_hears self.old.frame r (said_of said.entry)) }
         ensures counts { (len : ℕ) → Counted self.old.question self.old.bad self.old.wtx len → CountsAfter result self.new.stage self.new.question self.new.bad self.new.wtx len }
+        ensures ahead { AheadAfter result (ahead self.old.stage (array_vec_len self.old.command) self.old.place (array_vec_len self.old.got)) (ahead self.new.stage (array_vec_len self.new.command) self.new.place (array_vec_len self.new.got)) }
         ensures kept { Keeps self.old self.new }
         ensures spent { is_spent result ≡ (rule.is_bad (said_of said.entry) && nat_le 2 self.old.bad) }
         ensures whole { IsWhole result self.new.got.items }

@@ -1,8 +1,9 @@
 //! The parts of a response.
 ghost use Rattle.std.specs.Prelude.{◌≡◌, ◌≤◌, ℕ, true, false};
+ghost use Rattle.arrayvec.specs.ArrayVec.{array_vec_len};
 ghost use Rattle.ep_base.specs.Block as rule;
 ghost use Rattle.ep_base.specs.ReaderEnd as rules;
-ghost use Rattle.block_reader.specs.Counts.{Counted, CountsAfter, is_open};
+ghost use Rattle.block_reader.specs.Counts.{ahead, AheadAfter, Counted, CountsAfter, is_open};
 ghost use Rattle.block_reader.specs.Progress.{course, is_spent, IsWhole, Keeps, Sends, StepShows};
 
 use crate::progress::Progress;
@@ -15,6 +16,7 @@ impl Progress {
         ensures by_rules { (r : rules.Reader) → Sends (course self.old) r →
             StepShows result (course self.new) (rule.Intact (rule.I number chained inf.now)) r (rules.takes self.old.frame self.old.got.items chained inf.now r) }
         ensures counts { (len : ℕ) → Counted self.old.question self.old.bad self.old.wtx len → CountsAfter result self.new.stage self.new.question self.new.bad self.new.wtx len }
+        ensures ahead { AheadAfter result (ahead self.old.stage (array_vec_len self.old.command) self.old.place (array_vec_len self.old.got)) (ahead self.new.stage (array_vec_len self.new.command) self.new.place (array_vec_len self.new.got)) }
         ensures kept { Keeps self.old self.new }
         ensures spent { is_spent result ≡ false }
         ensures whole { IsWhole result self.new.got.items }
@@ -50,6 +52,7 @@ impl Progress {
         ensures by_rules { (r : rules.Reader) → Sends (course self.old) r →
             StepShows result (course self.new) (rule.Intact (rule.I number chained inf.now)) r (rules.reader_hears self.old.frame r (rule.Intact (rule.I number chained inf.now))) }
         ensures counts { (len : ℕ) → Counted self.old.question self.old.bad self.old.wtx len → CountsAfter result self.new.stage self.new.question self.new.bad self.new.wtx len }
+        ensures ahead { AheadAfter result (ahead self.old.stage (array_vec_len self.old.command) self.old.place (array_vec_len self.old.got)) (ahead self.new.stage (array_vec_len self.new.command) self.new.place (array_vec_len self.new.got)) }
         ensures kept { Keeps self.old self.new }
         ensures spent { is_spent result ≡ false }
         ensures whole { IsWhole result self.new.got.items }

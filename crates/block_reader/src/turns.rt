@@ -1,5 +1,6 @@
 //! A reader's end: how a command begins, what a hearing leads to, and how the link is closed.
 ghost use Rattle.std.specs.Prelude.{◌≡◌, ◌≤◌, ◌<◌, ◌++◌, ◌&&◌, nat_le, [], ◌∷◌, true, List, length};
+ghost use Rattle.ep_base.specs.Apdu.{is_command};
 ghost use Rattle.ep_base.specs.Block.{is_bad, Deselect};
 ghost use Rattle.ep_base.specs.Dialogue.{block_of, opened};
 ghost use Rattle.ep_base.specs.FrameSize as sizes;
@@ -10,7 +11,7 @@ ghost use Rattle.ep_base.specs.LinkEvents.{Begins, Hears, LinkEvent, exchange_of
 ghost use Rattle.ep_base.specs.Carry.{turn_on};
 ghost use Rattle.rf_frame.specs.Meaning.{heard_of};
 ghost use Rattle.block_reader.specs.Progress.{block_due};
-ghost use Rattle.block_reader.specs.Stands.{held, is_open, is_resting, asks_on, is_done, is_spent, Rests, Asking, Closed, Shows, Says, StandsFor, IsDevice};
+ghost use Rattle.block_reader.specs.Stands.{held, is_open, is_resting, asks_on, is_done, is_spent, left_of, Rests, Asking, Closed, Shows, Says, StandsFor, IsDevice};
 
 use crate::asking::ask_block;
 use crate::hearing::read_hearing;
@@ -82,6 +83,7 @@ impl ReaderEnd {
             × (result ≡ block_ask (held self.old).set.kind (held self.old).set.fwi (asked (begun (held self.old).set.frames.card command.now r))) }
         ensures setting { (held self.new).set ≡ (held self.old).set }
         ensures open { is_open (held self.new) ≡ true }
+        ensures legal { is_command command.now ≡ true }
         ensures stands { (es : List LinkEvent) → StandsFor (held self.old) es →
             StandsFor (held self.new) (es ++ Begins command.now ∷ [])
             × (result ≡ block_ask (held self.old).set.kind (held self.old).set.fwi (block_of (standing_after (held self.old).set (es ++ Begins command.now ∷ [])).turn)) }
@@ -99,6 +101,7 @@ impl ReaderEnd {
         ensures setting { (held self.new).set ≡ (held self.old).set }
         ensures open { is_open (held self.new) ≡ asks_on result }
         ensures resting { is_resting (held self.new) ≡ is_done result }
+        ensures left { asks_on result ≡ true → left_of (held self.new) < left_of (held self.old) }
         ensures device { IsDevice result → ⊥ }
         ensures spent { is_spent result ≡ (is_bad (heard_block (held self.old).set.kind (held self.old).set.frames.reader (heard_of heard.now)) && nat_le 2 (held self.old).course.bad) }
     {
@@ -143,6 +146,7 @@ impl ReaderEnd {
         ensures setting { (held self.new).set ≡ (held self.old).set }
         ensures open { is_open (held self.new) ≡ asks_on result }
         ensures resting { is_resting (held self.new) ≡ is_done result }
+        ensures left { asks_on result ≡ true → left_of (held self.new) < left_of (held self.old) }
         ensures device { IsDevice result → ⊥ }
         ensures spent { is_spent result ≡ (is_bad (heard_block (held self.old).set.kind (held self.old).set.frames.reader (heard_of heard.now)) && nat_le 2 (held self.old).course.bad) }
         ensures stands { (es : List LinkEvent) → StandsFor (held self.old) es →

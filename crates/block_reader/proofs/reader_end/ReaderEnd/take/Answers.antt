@@ -42,6 +42,11 @@ returns-in-Again-clause-kept c = λ r s.
     let more = c.push.ensures.items ∙ ap (λ (k : Kept). c.args.self.now.since.items ++ k ∷ []) (c.exchange-exchange.ensures r s.sends.block) in
     more ∙ kept_again (course c.hear.new.self) x r (reader_hears old.course.frame r x) old.since (exchange_of old.set r h) shows
 
+pub invariant_of-self-in-Toggled : goal.invariant_of-self-in-Toggled
+invariant_of-self-in-Toggled c =
+    let now = c.in-Toggled.ensures.counts _ (counted_open _ _ _ _ _ c.requires.open c.args.self.now.counted) in
+    record { fwi_most = c.args.self.now.fwi_most; counted = open_counted _ _ _ _ _ now.0 (rw c.clear.ensures now.1) }
+
 pub returns-in-Toggled-clause-open : goal.returns-in-Toggled-clause-open
 returns-in-Toggled-clause-open c = (c.in-Toggled.ensures.counts _ (counted_open _ _ _ _ _ c.requires.open c.args.self.now.counted)).0
 
