@@ -1,6 +1,5 @@
 //! A link with both of its ends.
-ghost use Rattle.std.specs.Prelude.{◌≡◌, ◌≤◌, ◌+◌, All, IfOk, length};
-ghost use Rattle.block_reader.specs.Stands.{is_resting};
+ghost use Rattle.std.specs.Prelude.{◌≡◌, ◌<◌, ◌≤◌, ◌+◌, All, IfOk, length};
 ghost use Rattle.link.specs.Carried.{ByWire};
 ghost use Rattle.rf_field.specs.Meaning.{IsRun};
 ghost use Rattle.link_tests.specs.Open.{end_of, far_end, IsReady};
@@ -59,13 +58,6 @@ impl OpenLink {
         ensures again { IfOk result (λ r. length (far_end self.new).log + 2 ≤ (far_end self.new).room → IsReady (end_of self.new) (far_end self.new)) }
     {
         carry(&mut self.end, &mut self.wire, command)
-    }
-
-    /// Whether a command may be carried: no command is open, and the link hasn't failed.
-    pub fn rests(&self) -> bool
-        ensures { result ≡ is_resting (end_of self.now) }
-    {
-        self.end.rests()
     }
 
     /// What the card executed.
