@@ -1,5 +1,4 @@
 -- An open link with both of its ends (this project's own).
-use Rattle.std.specs.Prelude.{ℕ, ◌+◌, ◌≤◌, length}
 use Rattle.ep_base.specs.Carry.{AtRest, OfLink}
 use Rattle.ep_base.specs.ReaderEnd.{Reader}
 use Rattle.ep_base.specs.Wire.{Wire}

@@ -1,7 +1,9 @@
 //! A link with both of its ends.
 ghost use Rattle.std.specs.Prelude.{◌≡◌, ◌<◌, ◌≤◌, ◌+◌, All, IfOk, length};
 ghost use Rattle.link.specs.Carried.{ByWire};
-ghost use Rattle.rf_field.specs.Meaning.{IsRun};
+ghost use Rattle.ep_base.specs.FrameSize as sizes;
+ghost use Rattle.ep_base.specs.Wire.{new_wire};
+ghost use Rattle.rf_field.specs.Meaning.{IsRun, passages};
 ghost use Rattle.link_tests.specs.Open.{end_of, far_end, IsReady};
 
 use apdu::{Command, Response};
@@ -40,9 +42,12 @@ impl OpenLink {
         requires runs { All IsRun fates.items }
         requires room { 2 ≤ room }
         ensures ready { IfOk result (λ l. IsReady (end_of l) (far_end l)) }
+        ensures card { IfOk result (λ l. far_end l ≡ new_wire card.now.kind (sizes.frame_size fsdi) image (passages fates.items) room) }
     {
+        let _number = image.number();
         let end = ReaderEnd::open(card, fsdi);
-        let wire = Wire::open(alloc, card.kind, frame_size(fsdi), image, fates, room)?;
+        let fsd = frame_size(fsdi);
+        let wire = Wire::open(alloc, card.kind, fsd, image, fates, room)?;
         Ok(OpenLink { end, wire })
     }
 
