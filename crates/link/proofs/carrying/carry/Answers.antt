@@ -1,12 +1,11 @@
-use Rattle.std.proofs.Common.{◌≡◌, true, Some, None, Ok, Err, subst, ◌∙◌, arith}
-use Rattle.ep_base.specs.Hearing.{Asked, Hearing}
-use Rattle.ep_base.specs.ReaderEnd.{Reader, begin}
+use Rattle.std.proofs.Common.{Some, None, Ok, Err, subst, ◌∙◌, arith}
+use Rattle.ep_base.specs.Hearing.{Asked}
+use Rattle.ep_base.specs.ReaderEnd.{begin}
 use Rattle.rf_frame.specs.Meaning.{heard_of}
-use Rattle.block_reader.specs.declared.ends.Next.{Next}
 use Rattle.block_reader.specs.declared.ends.Next.TheVariants.{Ask, Done, Failed}
 use Rattle.block_reader.specs.declared.ends.LinkEnd.TheVariants.{Device}
-use Rattle.block_reader.specs.Stands.{Held, held, Rests}
-use Rattle.link.proofs.Following.{Going, After, begun, lost, heard, goes_on, done, failed, once}
+use Rattle.block_reader.specs.Stands.{held}
+use Rattle.link.proofs.Following.{After, begun, lost, heard, goes_on, done, failed, once}
 use Rattle.link.proofs.carrying.carry.Goals as goal
 
 pub loop-heard-init : goal.loop-heard-init
