@@ -13,4 +13,6 @@ pub use radio::RfTransport;
 pub use transport::{PresentEnd, Presented, Transport};
 
 #[cfg(test)]
+mod radio_tests;
+#[cfg(test)]
 mod tests;
