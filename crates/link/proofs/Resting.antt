@@ -1,6 +1,5 @@
 -- A transport's link: the reader of an end that rests, and what a command and a closing leave.
-use Rattle.std.proofs.Common.{◌≡◌, ℕ, Bool, true, false, List, [], ◌∷◌, ◌++◌, length, Option, Some, None, Result, Ok, Err, refl, sym, ap, ◌∙◌, subst}
-use Rattle.std.specs.Prelude.{IsOk}
+use Rattle.std.proofs.Common.{◌≡◌, ℕ, Bool, true, List, [], ◌∷◌, ◌++◌, length, Option, Some, None, Ok, Err, refl, sym, ap, ◌∙◌, subst}
 use Rattle.ep_base.specs.Air.{ArePassages}
 use Rattle.ep_base.specs.Block.{Heard, Deselect}
 use Rattle.ep_base.specs.Hearing.{Hearing, wave_of_kind}
@@ -9,7 +8,6 @@ use Rattle.ep_base.specs.Spelling.{spelled}
 use Rattle.ep_base.specs.Medium.{MediumSteps}
 use Rattle.ep_base.specs.ReaderEnd.{Reader, Phase, Idle, begin}
 use Rattle.ep_base.specs.LinkFrames.{LinkSetting}
-use Rattle.ep_base.specs.Carry.{SendsBlock, ActsAs}
 use Rattle.ep_base.specs.Wire.{Wire, wire_send}
 use Rattle.ep_base.specs.Radio.{OpenLink, TransactsOver}
 use Rattle.ep_base.specs.Transport.{Answered}

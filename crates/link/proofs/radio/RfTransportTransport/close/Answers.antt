@@ -1,6 +1,6 @@
-use Rattle.std.proofs.Common.{rules, ◌≡◌, Bool, true, Option, Some, None, Ok, Err, refl, sym, ap, ◌∙◌, subst}
+use Rattle.std.proofs.Common.{◌≡◌, Some, None, refl, ◌∙◌, subst}
 use Rattle.ep_base.specs.Block.{Deselect}
-use Rattle.ep_base.specs.Hearing.{Asked, Hearing}
+use Rattle.ep_base.specs.Hearing.{Asked}
 use Rattle.ep_base.specs.Carry.{SendsBlock}
 use Rattle.ep_base.specs.Radio.{OpenLink}
 use Rattle.rf_frame.specs.Meaning.{maybe_heard}

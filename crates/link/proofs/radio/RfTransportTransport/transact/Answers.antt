@@ -1,13 +1,10 @@
-use Rattle.std.proofs.Common.{rules, ◌≡◌, Bool, true, Option, Some, None, Ok, Err, refl, sym, ap, ◌∙◌, subst}
+use Rattle.std.proofs.Common.{◌≡◌, true, Some, Ok, Err, refl, ap, ◌∙◌, subst}
 use Rattle.std.proofs.lemmas.Result.{err_from_is_err_and}
-use Rattle.ep_base.specs.ReaderEnd.{Reader}
 use Rattle.ep_base.specs.Carry.{ActsAs, AtRest, OfLink}
 use Rattle.ep_base.specs.Radio.{OpenLink}
 use Rattle.block_reader.specs.declared.ends.LinkEnd.{LinkEnd}
-use Rattle.block_reader.specs.Stands.{held, Rests}
-use Rattle.block_reader.specs.declared.reader_end.ReaderEnd.{ReaderEnd}
-use Rattle.link.specs.Carried.{Carried, ByWire}
-use Rattle.link.specs.Radio.{IsStill, OverWire, link_of, open_link, resting}
+use Rattle.block_reader.specs.Stands.{held}
+use Rattle.link.specs.Radio.{OverWire, link_of, open_link, resting}
 use Rattle.link.proofs.Resting.{answered, failed, link_is, over_wire_err, over_wire_ok, rests_still}
 use Rattle.link.proofs.radio.RfTransportTransport.transact.Goals as goal
 
