@@ -11,20 +11,23 @@ use ep_base::{CardKind, FrameBuf, Wave};
 use rf_frame::{Activated, Heard, Medium, RfFailed, copy_frame, sent_message};
 use std::test::Fail;
 
-fn present<T: Transport>(transport: &mut T) -> Result<Presented, PresentEnd>
+pub(crate) fn present<T: Transport>(transport: &mut T) -> Result<Presented, PresentEnd>
     ensures { T.presented transport.new ≡ is_ok result }
 {
     transport.present()
 }
 
-fn transact<T: Transport>(transport: &mut T, command: &Command) -> Result<Response, LinkEnd>
+pub(crate) fn transact<T: Transport>(
+    transport: &mut T,
+    command: &Command,
+) -> Result<Response, LinkEnd>
     requires { T.presented transport.old ≡ true }
     ensures { T.presented transport.new ≡ is_ok result }
 {
     transport.transact(command)
 }
 
-fn close<T: Transport>(transport: &mut T) -> Result<(), RfFailed>
+pub(crate) fn close<T: Transport>(transport: &mut T) -> Result<(), RfFailed>
     requires { T.presented transport.old ≡ true }
 {
     transport.close()
