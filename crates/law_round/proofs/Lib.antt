@@ -1,2 +1,6 @@
 pub mod Arriving
+pub mod Doing
+pub mod Fitting
 pub mod Muteness
+pub mod Presenting
+pub mod PresentingB

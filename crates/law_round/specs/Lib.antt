@@ -1,2 +1,4 @@
 pub mod Inside
+pub mod Lawful
+pub mod Linked
 pub mod Muteness
