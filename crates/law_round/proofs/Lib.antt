@@ -1,6 +1,7 @@
 pub mod Arriving
 pub mod Doing
 pub mod Fitting
+pub mod Lawfulness
 pub mod Muteness
 pub mod Presenting
 pub mod PresentingB

@@ -51,7 +51,7 @@ last _ (Ten a b c d e f g i j k) (suc (suc zero)) before h0 l eq h = cc
 last _ (Ten a b c d e f g i j k) (suc (suc (suc zero))) before h0 l eq h = (refl, ap (λ x. x ++ (g ∷ i ∷ j ∷ k ∷ [])) eq)
 last _ (Ten a b c d e f g i j k) (suc (suc (suc (suc n)))) before h0 l eq h = absurd (omega arith)
 
-one_level : (uid : List ℕ) → IsUid uid → 1 ≤ levels uid
+pub one_level : (uid : List ℕ) → IsUid uid → 1 ≤ levels uid
 one_level _ (Four a b c d first) = omega arith
 one_level _ (Seven a b c d e f g fourth) = omega arith
 one_level _ (Ten a b c d e f g i j k) = omega arith

@@ -2,10 +2,12 @@
 use Rattle.std.specs.Prelude.{◌≡◌, ◌≢◌, ℕ, ◌≤◌, ◌==◌, false, List, [], ◌∷◌}
 use Rattle.ep_base.specs.declared.air.CardKind.{CardKind}
 use Rattle.ep_base.specs.declared.air.CardKind.TheVariants as kinds
-use Rattle.ep_base.specs.TypeA.{AState, Idle, Ready, Active, Protocol, Halted, levels}
+use Rattle.ep_base.specs.declared.air.Wave.{Wave}
+use Rattle.ep_base.specs.TypeA.{APlan, AState, Idle, Ready, Active, Protocol, Halted, levels}
+use Rattle.ep_base.specs.TypeB.{BPlan}
 use Rattle.ep_base.specs.CardAnswer.{Image, IsImage, deselected}
-use Rattle.ep_base.specs.Air.{ArePassages}
-use Rattle.ep_base.specs.Field.{Outside, OfA, OfB, outside_reset, Placed, Field}
+use Rattle.ep_base.specs.Air.{Passage, ArePassages}
+use Rattle.ep_base.specs.Field.{Outside, OfA, OfB, outside_reset, Placed, Field, placed_a, placed_b, new_field, field_reset, field_send}
 
 -- A UID of 4, 7 or 10 bytes. A cascade tag neither begins one of 4 bytes nor is the fourth byte of one of 7 (ISO/IEC 14443-3).
 pub data IsUid : List ℕ → Type 0 where
@@ -94,3 +96,15 @@ faces (p ∷ ps) = record { plan = outside_reset p.outside; kind = p.party.kind;
 abbrev pub reset_faces : List Placed → List Face
 reset_faces [] = []
 reset_faces (p ∷ ps) = record { plan = outside_reset p.outside; kind = p.party.kind; image = deselected p.party.image } ∷ reset_faces ps
+
+-- The cards of a document, before the first reset, are such cards (this project's own).
+abbrev pub BeginsLawful : Type 0
+BeginsLawful =
+    ((plan : APlan) (image : Image) → IsUid plan.uid → IsImage image → IsPlaced (placed_a plan image))
+    × ((plan : BPlan) (image : Image) → IsFour plan.pupi → IsImage image → IsPlaced (placed_b plan image))
+    × ((cards : List Placed) (presence : List (List ℕ)) (fates : List Passage) (room : ℕ) → ArePlaced cards → AreApart (names cards) → ArePassages fates →
+    Lawful (new_field cards presence fates room))
+
+-- A reset and an exchange, of whatever frame, leave the field lawful (this project's own).
+abbrev pub StaysLawful : Type 0
+StaysLawful = (f : Field) → Lawful f → Lawful (field_reset f) × ((wave : Wave) (bytes : List ℕ) → Lawful (field_send f wave bytes).1)
