@@ -1,7 +1,9 @@
 pub mod Arriving
 pub mod Doing
 pub mod Fitting
+pub mod Hearing
 pub mod Lawfulness
 pub mod Muteness
 pub mod Presenting
 pub mod PresentingB
+pub mod Rounds
