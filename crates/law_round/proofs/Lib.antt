@@ -3,6 +3,7 @@ pub mod Doing
 pub mod Fitting
 pub mod Hearing
 pub mod Lawfulness
+pub mod Linking
 pub mod Muteness
 pub mod Presenting
 pub mod PresentingB

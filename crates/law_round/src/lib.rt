@@ -1,14 +1,43 @@
-//! Laws of poll rounds and of the field, each the contract of a function that does nothing: blocks move no card outside
-//! the block protocol.
+//! Laws of poll rounds and of the field, each the contract of a function that does nothing: whatever becomes of the
+//! frames, a round that ends with a card leaves this card alone in the block protocol.
 //!
 //! Rounds, cards, fates and the field are defined in `ep_base`; `specs/` states the laws.
 #![tactic(auto)]
 
+ghost use Rattle.law_round.specs.Lawful.{BeginsLawful, StaysLawful};
+ghost use Rattle.law_round.specs.Linked.{KeepsCards, LinksOne, OnlyFound};
 ghost use Rattle.law_round.specs.Muteness.{OthersMute};
+
+/// A field of a document's cards is lawful, and stays so in each reset and each exchange, whatever the frame.
+///
+/// Lawful: UIDs and PUPIs have their form, no two cards of one kind have the same one, the images are within a document's
+/// limits, and bursts have at most sixteen bits.
+pub fn stays_lawful()
+    ensures begins { BeginsLawful }
+    ensures stays { StaysLawful }
+{}
 
 /// Whatever comes down of a block's frame, it moves no card outside the block protocol, and none of these answers.
 ///
 /// Bursts have at most sixteen bits.
 pub fn others_mute()
     ensures { OthersMute }
+{}
+
+/// Whatever becomes of the frames, whichever cards are present, and however much is in the log: when a round over a
+/// lawful field ends with a card, no card of another kind or identifier is in the block protocol.
+pub fn only_found()
+    ensures { OnlyFound }
+{}
+
+/// When a round over a lawful field ends with a card, this card is present and in the block protocol, with a fresh link
+/// of the reader's frame size; all others are outside the block protocol; and the cards haven't left.
+pub fn links_one()
+    ensures { LinksOne }
+{}
+
+/// A round over a lawful field ends. Nothing is executed in it, and of each card the plan and the image stay, in which no
+/// application is selected.
+pub fn keeps_cards()
+    ensures { KeepsCards }
 {}
