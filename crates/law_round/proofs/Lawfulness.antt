@@ -105,9 +105,9 @@ moves_reset (OfA p s) = record { formed = λ f. f; stands = λ f s. tt; kind = r
 moves_reset (OfB p s) = record { formed = λ f. f; stands = λ f s. tt; kind = refl; id = refl }
 
 -- one end of a link in place of another: the same kind, and an image within its limits
-record Keeps (p : Party) (q : Party) : Type 0 where
-  kind : q.kind ≡ p.kind
-  image : IsImage p.image → IsImage q.image
+pub record Keeps (p : Party) (q : Party) : Type 0 where
+  pub kind : q.kind ≡ p.kind
+  pub image : IsImage p.image → IsImage q.image
 
 same_party : (p : Party) → Keeps p p
 same_party p = record { kind = refl; image = λ i. i }
@@ -127,7 +127,7 @@ opened_keeps : (p : Party) (o : Option (List ℕ)) → Keeps p (takes_opened p o
 opened_keeps p None = same_party p
 opened_keeps p (Some m) = read_keeps p (read_block m)
 
-frame_keeps : (p : Party) (w : Wave) (b : List ℕ) → Keeps p (takes_frame p w b).party
+pub frame_keeps : (p : Party) (w : Wave) (b : List ℕ) → Keeps p (takes_frame p w b).party
 frame_keeps p w b =
     either (λ (h : Heeded). Keeps p h.party) (same_wave w (wave_of_kind p.kind) && not (is_halted p.card)) (takes_opened p (opened w b)) (unmoved p) (opened_keeps p (opened w b)) (same_party p)
 

@@ -1,3 +1,4 @@
+pub mod Acting
 pub mod Arriving
 pub mod Doing
 pub mod Fitting

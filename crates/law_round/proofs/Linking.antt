@@ -32,7 +32,7 @@ outside_out (OfB p BReady) f s i = refl
 outside_out (OfB p BProtocol) f s i = cc
 
 module _ (fsdi : ℕ) (card : Activated) where
-  abbrev turn : Turn Stage
+  abbrev pub turn : Turn Stage
   turn = Ends (Found card)
 
   abbrev IsIt : Outside → Type 0
@@ -111,11 +111,11 @@ module _ (fsdi : ℕ) (card : Activated) where
       (p ∷ x.0, x.1, x.2, ap (λ l. p ∷ l) x.3, x.4, rw (first, x.5) refl, x.6)
 
   -- at the end of a round with a card the cards are there
-  record AtEnd (t : Field) : Type 0 where
-    lawful : Lawful t
-    there : t.air.gone ≡ false
-    fits : AllFits fsdi turn t.cards
-    any : AnyInside t.cards
+  pub record AtEnd (t : Field) : Type 0 where
+    pub lawful : Lawful t
+    pub there : t.air.gone ≡ false
+    pub fits : AllFits fsdi turn t.cards
+    pub any : AnyInside t.cards
 
   by_gone : (t : Field) (gone : Bool) → t.air.gone ≡ gone → Lawful t → Mode fsdi turn gone t.cards → AtEnd t
   by_gone t false e l m = record { lawful = l; there = e; fits = m.0; any = m.1 }
@@ -127,10 +127,10 @@ module _ (fsdi : ℕ) (card : Activated) where
       let x = subst (λ r. Fit fsdi (Ends r) t) same fit in
       by_gone t t.air.gone refl x.0 x.1
 
-  at_end : (s t : Field) → Lawful s → PlaysRound (told field) fsdi s (Some (Found card)) t → AtEnd t
+  pub at_end : (s t : Field) → Lawful s → PlaysRound (told field) fsdi s (Some (Found card)) t → AtEnd t
   at_end s t l x = let e = round_ends fsdi s (Some (Found card)) t l x in by_end t e.end e.is e.fit
 
-  one_link : (t : Field) → AtEnd t → OneLink fsdi card t
+  pub one_link : (t : Field) → AtEnd t → OneLink fsdi card t
   one_link t e =
       let x = split t.cards e.lawful.cards e.lawful.apart e.fits e.any in
       (x.0, x.1, x.2, x.3, x.4, x.5, x.6, e.there)

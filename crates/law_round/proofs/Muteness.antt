@@ -118,7 +118,7 @@ b_block p s kind (Some []) h o = absurd h
 b_block p s kinds.A (Some (n ∷ rest)) h o = b_keeps_a p s (n ∷ rest)
 b_block p s kinds.B (Some (n ∷ rest)) h o = b_keeps_b p s n rest h o
 
-card_keeps : (kind : CardKind) (bytes : List ℕ) (c : Outside) → IsBlock (opened (wave_of_kind kind) bytes) → is_out c ≡ true
+pub card_keeps : (kind : CardKind) (bytes : List ℕ) (c : Outside) → IsBlock (opened (wave_of_kind kind) bytes) → is_out c ≡ true
     → (outside_after (wave_of_kind kind) bytes c ≡ c) × (outside_reply (wave_of_kind kind) bytes c ≡ Mute)
 card_keeps kind bytes (OfA p s) h o =
     let e = a_opens p s (wave_of_kind kind) bytes o ∙ a_block p s kind (opened (wave_of_kind kind) bytes) h o in

@@ -1,3 +1,4 @@
+pub mod Acting
 pub mod Inside
 pub mod Lawful
 pub mod Linked
