@@ -66,7 +66,7 @@ leg_truth legs.Loses e = refl
 leg_truth (Bursts start mask) e = le-leb _ _ e
 leg_truth Leaves e = refl
 
-passages_truth : (fates : List Passage) → ArePassages fates → are_passages fates ≡ true
+pub passages_truth : (fates : List Passage) → ArePassages fates → are_passages fates ≡ true
 passages_truth [] e = refl
 passages_truth (f ∷ fates) e = rw (leg_truth f.down e.0, leg_truth f.up e.1, passages_truth fates e.2) refl
 
@@ -78,15 +78,15 @@ next_passages : (fates : List Passage) → are_passages fates ≡ true → are_p
 next_passages [] e = refl
 next_passages (f ∷ fates) e = (and_parts (is_leg f.up) (are_passages fates) (and_parts (is_leg f.down) (is_leg f.up && are_passages fates) e).1).1
 
-abbrev Place : Bool → Outside → Type 0
+abbrev pub Place : Bool → Outside → Type 0
 Place halted o = (if halted then is_out o else is_inside o) ≡ true
 
 -- the card that has the link
-record Link (kind : CardKind) (gone : Bool) (p : Placed) : Type 0 where
-  present : p.present ≡ not gone
-  kind_same : p.party.kind ≡ kind
-  outside : kind_of p.outside ≡ kind
-  place : Place (is_halted p.party.card) p.outside
+pub record Link (kind : CardKind) (gone : Bool) (p : Placed) : Type 0 where
+  pub present : p.present ≡ not gone
+  pub kind_same : p.party.kind ≡ kind
+  pub outside : kind_of p.outside ≡ kind
+  pub place : Place (is_halted p.party.card) p.outside
 
 to_link : (kind : CardKind) (gone : Bool) (p : Placed) → is_link kind gone p ≡ true → Link kind gone p
 to_link kind gone p e =
@@ -96,7 +96,7 @@ to_link kind gone p e =
     let c = and_parts (same_kind (kind_of p.outside) kind) last b.1 in
     record { present = same_is p.present (not gone) a.0; kind_same = kind_is p.party.kind kind b.0; outside = kind_is (kind_of p.outside) kind c.0; place = c.1 }
 
-from_link : (kind : CardKind) (gone : Bool) (p : Placed) → Link kind gone p → is_link kind gone p ≡ true
+pub from_link : (kind : CardKind) (gone : Bool) (p : Placed) → Link kind gone p → is_link kind gone p ≡ true
 from_link kind gone p l =
     let a : same p.present (not gone) ≡ true = ap (λ x. same x (not gone)) l.present ∙ same_itself (not gone) in
     let b : same_kind p.party.kind kind ≡ true = ap (λ x. same_kind x kind) l.kind_same ∙ kind_itself kind in

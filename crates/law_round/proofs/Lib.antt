@@ -8,4 +8,5 @@ pub mod Linking
 pub mod Muteness
 pub mod Presenting
 pub mod PresentingB
+pub mod Readying
 pub mod Rounds

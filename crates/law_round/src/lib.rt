@@ -4,6 +4,7 @@
 //! Rounds, cards, fates and the field are defined in `ep_base`; `specs/` states the laws.
 #![tactic(auto)]
 
+ghost use Rattle.law_round.specs.Acting.{FieldActs, OpensWire};
 ghost use Rattle.law_round.specs.Lawful.{BeginsLawful, StaysLawful};
 ghost use Rattle.law_round.specs.Linked.{KeepsCards, LinksOne, OnlyFound};
 ghost use Rattle.law_round.specs.Muteness.{OthersMute};
@@ -40,4 +41,14 @@ pub fn links_one()
 /// application is selected.
 pub fn keeps_cards()
     ensures { KeepsCards }
+{}
+
+/// A field with an open link is the wire of that link: after a round over a lawful field that ends with a card, the link
+/// is open, its wire is as a command needs it, and both ends are at rest; and while it is open, the field carries each
+/// block of the link as the wire does, whatever becomes of the frames.
+///
+/// The log has two free records, and the card's frames have at least 16 bytes.
+pub fn field_acts()
+    ensures opens { OpensWire }
+    ensures acts { FieldActs }
 {}

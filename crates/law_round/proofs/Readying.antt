@@ -1,0 +1,89 @@
+-- After a round that ended with a card, its link is ready for a command.
+use Rattle.std.proofs.Common.{◌≡◌, ℕ, ◌+◌, ◌*◌, ◌<◌, ◌≤◌, ◌==◌, nat_lt, leb-true, ◌&&◌, Bool, true, false, List, [], ◌∷◌, ◌++◌, length, Some, sym, ap, ◌∙◌, subst, refl, arith, if◌then◌else◌}
+use Rattle.ep_base.specs.declared.air.CardKind.{CardKind}
+use Rattle.ep_base.specs.FrameSize.{frame_size}
+use Rattle.ep_base.specs.Hearing.{Activated, Found}
+use Rattle.ep_base.specs.CardEnd.{Card, is_halted}
+use Rattle.ep_base.specs.CardAnswer.{IsImage}
+use Rattle.ep_base.specs.Dialogue as dialogue
+use Rattle.ep_base.specs.LinkFrames.{LinkSetting}
+use Rattle.ep_base.specs.BlockField.{fresh_card}
+use Rattle.ep_base.specs.Air.{ArePassages}
+use Rattle.ep_base.specs.Medium.{told}
+use Rattle.ep_base.specs.Polling.{PlaysRound}
+use Rattle.ep_base.specs.Wire.{Party}
+use Rattle.ep_base.specs.Carry.{AtRest, OfLink}
+use Rattle.ep_base.specs.Field.{Placed, Field, field}
+use Rattle.law_round.specs.Inside.{is_out, all_out}
+use Rattle.law_round.specs.Lawful.{IsPlaced, ArePlaced, Lawful}
+use Rattle.law_round.specs.Linked.{HasLink}
+use Rattle.law_round.specs.Acting.{is_link, linked_at, are_passages, is_open, party_at, shown, IsReady, OpensWire}
+use Rattle.law_round.proofs.Presenting.{either, when}
+use Rattle.std.proofs.lemmas.Bool.{and_parts}
+use Rattle.law_round.proofs.Acting.{Place, Link, from_link, passages_truth}
+use Rattle.law_round.proofs.Linking.{AtEnd, at_end, one_link, keeps_cards_law}
+
+Sized : ℕ → Type 0
+Sized n = (16 ≤ n) × (n ≤ 256)
+
+frame_sized : (code : ℕ) → (16 ≤ frame_size code) × (frame_size code ≤ 256)
+unfolding frame_size Sized
+frame_sized code =
+    when Sized (nat_lt code 5) (16 + 8 * code) _ (λ e. let few : code < 5 = leb-true _ _ e in (omega arith, omega (arith, few)))
+    (λ e. either Sized (code == 5) 64 _ (omega arith, omega arith) (either Sized (code == 6) 96 _ (omega arith, omega arith) (either Sized (code == 7) 128 256 (omega arith, omega arith) (omega arith, omega arith))))
+
+at_rest : (c : Card) → c ≡ fresh_card → AtRest dialogue.opened c
+at_rest c e = subst (λ x. AtRest dialogue.opened x) (sym e) (record { differ = refl; closed = refl; fresh = refl; none_taken = refl; none_left = refl; none_logged = refl; unhalted = refl })
+
+linked_there : (kind : CardKind) (before : List Placed) (one : Placed) (after : List Placed) → is_link kind false one ≡ true → all_out before ≡ true → all_out after ≡ true
+    → linked_at kind false (length before) (before ++ one ∷ after) ≡ true
+linked_there kind [] one after is b a = rw (is, a) refl
+linked_there kind (p ∷ before) one after is b a =
+    let parts = and_parts (is_out p.outside) (all_out before) b in
+    let rest = linked_there kind before one after is parts.1 a in
+    rw (parts.0, rest) refl
+
+party_there : (before : List Placed) (one : Placed) (after : List Placed) → party_at (length before) (before ++ one ∷ after) ≡ one.party
+party_there [] one after = refl
+party_there (p ∷ before) one after = party_there before one after
+
+placed_there : (before : List Placed) (one : Placed) (after : List Placed) → ArePlaced (before ++ one ∷ after) → IsPlaced one
+placed_there [] one after d = d.0
+placed_there (p ∷ before) one after d = placed_there before one after d.1
+
+fresh_link : (fsdi : ℕ) (card : Activated) (kind : CardKind) (one : Placed) → kind ≡ card.kind → HasLink fsdi card one → Link kind false one
+fresh_link fsdi card kind one same h = record {
+  present = h.present;
+  kind_same = h.link_kind ∙ sym same;
+  outside = h.kind ∙ sym same;
+  place = subst (λ (c : Card). Place (is_halted c) one.outside) (sym h.fresh) h.inside;
+}
+
+pub opens_wire_law : OpensWire
+opens_wire_law fsdi s t card set l x same size least room =
+    let e = at_end fsdi card s t l x in
+    let y = one_link fsdi card t e in
+    let kept = keeps_cards_law fsdi s t (Some (Found card)) l x in
+    let n = length y.0 in
+    let party : party_at n t.cards ≡ y.1.party = ap (λ ps. party_at n ps) y.3 ∙ party_there y.0 y.1 y.2 in
+    let is_link_true : is_link set.kind false y.1 ≡ true = from_link set.kind false y.1 (fresh_link fsdi card set.kind y.1 same y.4) in
+    let linked : linked_at set.kind t.air.gone n t.cards ≡ true =
+    ap (λ gone. linked_at set.kind gone n t.cards) y.7 ∙ ap (λ ps. linked_at set.kind false n ps) y.3 ∙ linked_there set.kind y.0 y.1 y.2 is_link_true y.5 y.6 in
+    let passages : are_passages t.air.fates ≡ true = passages_truth t.air.fates e.lawful.fates in
+    let placed : IsPlaced y.1 = placed_there y.0 y.1 y.2 (subst (λ ps. ArePlaced ps) y.3 e.lawful.cards) in
+    let sized = frame_sized fsdi in
+    let ready : IsReady set n t = record {
+      is = rw (linked, passages) refl;
+      wire = record {
+        kind = ap (λ (p : Party). p.kind) party ∙ y.4.link_kind ∙ sym same;
+        frame = ap (λ (p : Party). p.fsd) party ∙ y.4.frame ∙ sym size;
+        card_least = least;
+        reader_least = subst (λ k. 16 ≤ k) (sym size) sized.0;
+        reader_most = subst (λ k. k ≤ 256) (sym size) sized.1;
+        image = subst (λ (p : Party). IsImage p.image) (sym party) placed.image;
+        fates = e.lawful.fates;
+        room = subst (λ k. length t.log + 2 ≤ k) (sym kept.2) (subst (λ (log : List (ℕ × List ℕ)). length log + 2 ≤ s.room) (sym kept.1) room);
+      };
+      rest = at_rest (party_at n t.cards).card (ap (λ (p : Party). p.card) party ∙ y.4.fresh);
+    } in
+    (y.0, y.1, y.2, y.3, y.4, party, ready)
