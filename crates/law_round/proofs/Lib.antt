@@ -1,5 +1,6 @@
 pub mod Acting
 pub mod Arriving
+pub mod Counting
 pub mod Doing
 pub mod Fitting
 pub mod Hearing

@@ -5,6 +5,7 @@
 #![tactic(auto)]
 
 ghost use Rattle.law_round.specs.Acting.{FieldActs, OpensWire};
+ghost use Rattle.law_round.specs.Ending.{EndsInEleven};
 ghost use Rattle.law_round.specs.Lawful.{BeginsLawful, StaysLawful};
 ghost use Rattle.law_round.specs.Linked.{KeepsCards, LinksOne, OnlyFound};
 ghost use Rattle.law_round.specs.Muteness.{OthersMute};
@@ -51,4 +52,9 @@ pub fn keeps_cards()
 pub fn field_acts()
     ensures opens { OpensWire }
     ensures acts { FieldActs }
+{}
+
+/// A round has at most eleven exchanges: whatever is heard, it is over after eleven answers.
+pub fn exchanges()
+    ensures { EndsInEleven }
 {}
