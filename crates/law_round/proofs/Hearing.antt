@@ -236,7 +236,7 @@ abbrev pub AllAway : List Placed → Type 0
 AllAway [] = Unit {0}
 AllAway (p ∷ ps) = (p.present ≡ false) × AllAway ps
 
-away_one : (room : ℕ) (w : Wave) (b : List ℕ) (log : List (ℕ × List ℕ)) (p : Placed) → p.present ≡ false → one_hears room w b log p ≡ untouched p
+pub away_one : (room : ℕ) (w : Wave) (b : List ℕ) (log : List (ℕ × List ℕ)) (p : Placed) → p.present ≡ false → one_hears room w b log p ≡ untouched p
 away_one room w b log p e = ap (λ x. if x && nat_lt (length log) room then hears_frame p w b else untouched p) e
 
 -- no card there

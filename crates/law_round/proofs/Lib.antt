@@ -6,8 +6,12 @@ pub mod Fitting
 pub mod Hearing
 pub mod Lawfulness
 pub mod Linking
+pub mod Lone
 pub mod Muteness
 pub mod Presenting
 pub mod PresentingB
 pub mod Readying
 pub mod Rounds
+pub mod Singling
+pub mod SoloA
+pub mod SoloB

@@ -394,7 +394,7 @@ module _ (fsdi : ℕ) where
   reset_fits : (s : Field) → Lawful s → Fit fsdi (Goes Waking) (field_reset s)
   reset_fits s l = (lawful_reset s l, reset_mode s.air.gone s.presence 1 s.cards)
 
-  first_sent : (s : Field) (well : Bool) (v : Field) (h : Option Hearing) (u : Field) → (told field).resets s well v → AfterReset (told field) well v (round_asks fsdi Waking) h u
+  pub first_sent : (s : Field) (well : Bool) (v : Field) (h : Option Hearing) (u : Field) → (told field).resets s well v → AfterReset (told field) well v (round_asks fsdi Waking) h u
       → field_send (field_reset s) (wave fsdi Waking) (bytes fsdi Waking) ≡ (h, u)
   first_sent s well v h u e x =
       let well_is : well ≡ true = sym (ap (λ (p : Bool × Field). p.0) e) in

@@ -1,4 +1,5 @@
 pub mod Acting
+pub mod Alone
 pub mod Ending
 pub mod Inside
 pub mod Lawful

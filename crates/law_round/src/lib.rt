@@ -5,6 +5,7 @@
 #![tactic(auto)]
 
 ghost use Rattle.law_round.specs.Acting.{FieldActs, OpensWire};
+ghost use Rattle.law_round.specs.Alone.{OneCardA, OneCardB};
 ghost use Rattle.law_round.specs.Ending.{EndsInEleven};
 ghost use Rattle.law_round.specs.Lawful.{BeginsLawful, StaysLawful};
 ghost use Rattle.law_round.specs.Linked.{KeepsCards, LinksOne, OnlyFound};
@@ -57,4 +58,16 @@ pub fn field_acts()
 /// A round has at most eleven exchanges: whatever is heard, it is over after eleven answers.
 pub fn exchanges()
     ensures { EndsInEleven }
+{}
+
+/// A round in which a card of Type A that follows ISO/IEC 14443-4 is alone ends with this card.
+///
+/// `fsdi` is below 16, every frame passes, and the log has a free record.
+pub fn one_card_a()
+    ensures { OneCardA }
+{}
+
+/// A round in which a card of Type B that follows ISO/IEC 14443-4 is alone ends with this card, as one of Type A does.
+pub fn one_card_b()
+    ensures { OneCardB }
 {}
