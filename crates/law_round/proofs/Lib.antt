@@ -1,5 +1,6 @@
 pub mod Acting
 pub mod Arriving
+pub mod Carrying
 pub mod Counting
 pub mod Doing
 pub mod Fitting
@@ -13,5 +14,6 @@ pub mod PresentingB
 pub mod Readying
 pub mod Rounds
 pub mod Singling
+pub mod Sizing
 pub mod SoloA
 pub mod SoloB

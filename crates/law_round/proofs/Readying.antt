@@ -21,16 +21,8 @@ use Rattle.law_round.specs.Acting.{is_link, linked_at, are_passages, is_open, pa
 use Rattle.law_round.proofs.Presenting.{either, when}
 use Rattle.std.proofs.lemmas.Bool.{and_parts}
 use Rattle.law_round.proofs.Acting.{Place, Link, from_link, passages_truth}
+use Rattle.law_round.proofs.Sizing.{frame_sized, round_sized}
 use Rattle.law_round.proofs.Linking.{AtEnd, at_end, one_link, keeps_cards_law}
-
-Sized : ℕ → Type 0
-Sized n = (16 ≤ n) × (n ≤ 256)
-
-frame_sized : (code : ℕ) → (16 ≤ frame_size code) × (frame_size code ≤ 256)
-unfolding frame_size Sized
-frame_sized code =
-    when Sized (nat_lt code 5) (16 + 8 * code) _ (λ e. let few : code < 5 = leb-true _ _ e in (omega arith, omega (arith, few)))
-    (λ e. either Sized (code == 5) 64 _ (omega arith, omega arith) (either Sized (code == 6) 96 _ (omega arith, omega arith) (either Sized (code == 7) 128 256 (omega arith, omega arith) (omega arith, omega arith))))
 
 at_rest : (c : Card) → c ≡ fresh_card → AtRest dialogue.opened c
 at_rest c e = subst (λ x. AtRest dialogue.opened x) (sym e) (record { differ = refl; closed = refl; fresh = refl; none_taken = refl; none_left = refl; none_logged = refl; unhalted = refl })
@@ -60,7 +52,7 @@ fresh_link fsdi card kind one same h = record {
 }
 
 pub opens_wire_law : OpensWire
-opens_wire_law fsdi s t card set l x same size least room =
+opens_wire_law fsdi s t card set l x same size card_size room =
     let e = at_end fsdi card s t l x in
     let y = one_link fsdi card t e in
     let kept = keeps_cards_law fsdi s t (Some (Found card)) l x in
@@ -77,7 +69,7 @@ opens_wire_law fsdi s t card set l x same size least room =
       wire = record {
         kind = ap (λ (p : Party). p.kind) party ∙ y.4.link_kind ∙ sym same;
         frame = ap (λ (p : Party). p.fsd) party ∙ y.4.frame ∙ sym size;
-        card_least = least;
+        card_least = subst (λ k. 16 ≤ k) (sym card_size) (round_sized (told field) fsdi s t card x).0;
         reader_least = subst (λ k. 16 ≤ k) (sym size) sized.0;
         reader_most = subst (λ k. k ≤ 256) (sym size) sized.1;
         image = subst (λ (p : Party). IsImage p.image) (sym party) placed.image;

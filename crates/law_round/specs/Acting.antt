@@ -82,6 +82,6 @@ pub record IsReady (set : LinkSetting) (n : ℕ) (t : Field) : Type 0 where
 abbrev pub OpensWire : Type 0
 OpensWire = (fsdi : ℕ) (s t : Field) (card : Activated) (set : LinkSetting) →
     Lawful s → PlaysRound (told field) fsdi s (Some (Found card)) t →
-    set.kind ≡ card.kind → set.frames.reader ≡ frame_size fsdi → 16 ≤ set.frames.card → length s.log + 2 ≤ s.room →
+    set.kind ≡ card.kind → set.frames.reader ≡ frame_size fsdi → set.frames.card ≡ card.fsc → length s.log + 2 ≤ s.room →
     (before : List Placed) × (one : Placed) × (after : List Placed) × (t.cards ≡ before ++ one ∷ after)
     × HasLink fsdi card one × (party_at (length before) t.cards ≡ one.party) × IsReady set (length before) t

@@ -5,3 +5,4 @@ pub mod Inside
 pub mod Lawful
 pub mod Linked
 pub mod Muteness
+pub mod Once

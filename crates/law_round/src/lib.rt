@@ -10,6 +10,7 @@ ghost use Rattle.law_round.specs.Ending.{EndsInEleven};
 ghost use Rattle.law_round.specs.Lawful.{BeginsLawful, StaysLawful};
 ghost use Rattle.law_round.specs.Linked.{KeepsCards, LinksOne, OnlyFound};
 ghost use Rattle.law_round.specs.Muteness.{OthersMute};
+ghost use Rattle.law_round.specs.Once.{OnceInField};
 
 /// A field of a document's cards is lawful, and stays so in each reset and each exchange, whatever the frame.
 ///
@@ -49,7 +50,7 @@ pub fn keeps_cards()
 /// is open, its wire is as a command needs it, and both ends are at rest; and while it is open, the field carries each
 /// block of the link as the wire does, whatever becomes of the frames.
 ///
-/// The log has two free records, and the card's frames have at least 16 bytes.
+/// The log has two free records.
 pub fn field_acts()
     ensures opens { OpensWire }
     ensures acts { FieldActs }
@@ -70,4 +71,12 @@ pub fn one_card_a()
 /// A round in which a card of Type B that follows ISO/IEC 14443-4 is alone ends with this card, as one of Type A does.
 pub fn one_card_b()
     ensures { OneCardB }
+{}
+
+/// Whatever becomes of the frames, a command over an open link of a field is executed once by the linked card, or at most
+/// once where the link is spent; and the link stays open. No other card executes anything.
+///
+/// The link is between two commands, and its wire is as a command needs it.
+pub fn once_in_field()
+    ensures { OnceInField }
 {}
