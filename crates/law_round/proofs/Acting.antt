@@ -70,7 +70,7 @@ pub passages_truth : (fates : List Passage) → ArePassages fates → are_passag
 passages_truth [] e = refl
 passages_truth (f ∷ fates) e = rw (leg_truth f.down e.0, leg_truth f.up e.1, passages_truth fates e.2) refl
 
-next_down : (fates : List Passage) → are_passages fates ≡ true → IsLeg (next_fate fates).down
+pub next_down : (fates : List Passage) → are_passages fates ≡ true → IsLeg (next_fate fates).down
 next_down [] e = tt
 next_down (f ∷ fates) e = leg_is f.down (and_parts (is_leg f.down) (is_leg f.up && are_passages fates) e).0
 

@@ -1,6 +1,7 @@
 pub mod Acting
 pub mod Arriving
 pub mod Carrying
+pub mod Closing
 pub mod Counting
 pub mod Doing
 pub mod Fitting

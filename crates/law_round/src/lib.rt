@@ -10,7 +10,7 @@ ghost use Rattle.law_round.specs.Ending.{EndsInEleven};
 ghost use Rattle.law_round.specs.Lawful.{BeginsLawful, StaysLawful};
 ghost use Rattle.law_round.specs.Linked.{KeepsCards, LinksOne, OnlyFound};
 ghost use Rattle.law_round.specs.Muteness.{OthersMute};
-ghost use Rattle.law_round.specs.Once.{OnceInField};
+ghost use Rattle.law_round.specs.Once.{ClosesQuietly, OnceInField};
 
 /// A field of a document's cards is lawful, and stays so in each reset and each exchange, whatever the frame.
 ///
@@ -79,4 +79,10 @@ pub fn one_card_b()
 /// The link is between two commands, and its wire is as a command needs it.
 pub fn once_in_field()
     ensures { OnceInField }
+{}
+
+/// Whatever becomes of its frame, S(DESELECT) over an open link of a field executes nothing, and leaves the linked card's
+/// image as it is.
+pub fn closes_quietly()
+    ensures { ClosesQuietly }
 {}
