@@ -1,36 +1,28 @@
 -- A field with an open link does as the wire of that link.
-use Rattle.std.proofs.Common.{◌≡◌, ℕ, zero, suc, ◌+◌, ◌-◌, ◌<◌, ◌≤◌, ◌^◌, nat_lt, nat_le, le-leb, leb-true, ◌&&◌, ◌||◌, Bool, true, false, List, [], ◌∷◌, ◌++◌, length, Option, Some, None, sym, ap, ◌∙◌, subst, refl, arith, append-nil, if◌then◌else◌}
+use Rattle.std.proofs.Common.{◌≡◌, ℕ, zero, suc, ◌+◌, ◌-◌, ◌^◌, nat_lt, le-leb, leb-true, ◌&&◌, ◌||◌, Bool, true, false, List, [], ◌∷◌, ◌++◌, length, Option, Some, None, sym, ap, ◌∙◌, subst, refl, append-nil, if◌then◌else◌}
 use Rattle.std.specs.Prelude.{not, min}
 use Rattle.std.proofs.lemmas.Bool.{and_parts}
 use Rattle.ep_base.specs.declared.air.CardKind.{CardKind}
 use Rattle.ep_base.specs.declared.air.CardKind.TheVariants as kinds
 use Rattle.ep_base.specs.declared.air.Wave.{Wave}
 use Rattle.ep_base.specs.Frame.{sealed, opened}
-use Rattle.ep_base.specs.FrameSize.{frame_size}
-use Rattle.ep_base.specs.Hearing.{Framed, Hearing, Silence, Activated, Found, same_kind, same_wave, wave_of_kind, CardReply, Mute, Passes}
+use Rattle.ep_base.specs.Hearing.{Framed, Hearing, same_kind, same_wave, wave_of_kind, CardReply, Passes}
 use Rattle.ep_base.specs.TypeA.{Idle, Ready, Active, Protocol, Halted}
 use Rattle.ep_base.specs.TypeB.{BIdle, BReady, BProtocol}
 use Rattle.ep_base.specs.Block.{Block, same}
 use Rattle.ep_base.specs.Spelling.{spelled}
 use Rattle.ep_base.specs.CardEnd.{is_halted}
-use Rattle.ep_base.specs.CardAnswer.{IsImage}
-use Rattle.ep_base.specs.Dialogue as dialogue
-use Rattle.ep_base.specs.LinkFrames.{LinkSetting, wait_of}
+use Rattle.ep_base.specs.LinkFrames.{LinkSetting}
 use Rattle.ep_base.specs.Air.{Leg, Bursts, Leaves, IsLeg, Passage, ArePassages, next_fate, fates_after, gone_by}
 use Rattle.ep_base.specs.Air as legs
-use Rattle.ep_base.specs.Medium.{told}
-use Rattle.ep_base.specs.Polling.{PlaysRound}
-use Rattle.ep_base.specs.Wire.{Party, Heeded, unmoved, takes_opened, takes_frame, takes_down, aired, comes_down, comes_back, Wire, heard_down, moved, wire_heeds, wire_send}
-use Rattle.ep_base.specs.Carry.{SendsBlock, ActsAs, AtRest, OfLink}
-use Rattle.ep_base.specs.Field.{Outside, OfA, OfB, outside_after, outside_reply, outside_halted, Placed, Told, untouched, by_link, by_reply, hears_frame, one_hears, Heard, maybe_answer, and_then, all_hear, joined, left_by, leaves, away, Field, all_take, field_hears, field_after, field_send, field}
+use Rattle.ep_base.specs.Wire.{Party, Heeded, unmoved, takes_opened, takes_frame, takes_down, aired, comes_down, comes_back, Wire, moved, wire_heeds, wire_send}
+use Rattle.ep_base.specs.Field.{Outside, OfA, OfB, outside_after, outside_reply, outside_halted, Placed, Told, untouched, by_link, by_reply, hears_frame, one_hears, Heard, maybe_answer, and_then, all_hear, joined, left_by, leaves, away, Field, all_take, field_hears, field_after, field_send}
 use Rattle.law_round.specs.Inside.{is_inside, is_out, all_out}
-use Rattle.law_round.specs.Lawful.{kind_of, IsPlaced, ArePlaced, Lawful}
-use Rattle.law_round.specs.Linked.{HasLink, OneLink}
-use Rattle.law_round.specs.Acting.{is_leg, are_passages, is_link, linked_at, is_open, party_at, shown, FieldActs, IsReady, OpensWire}
+use Rattle.law_round.specs.Lawful.{kind_of}
+use Rattle.law_round.specs.Acting.{is_leg, are_passages, is_link, linked_at, is_open, party_at, shown, FieldActs}
 use Rattle.law_round.proofs.Presenting.{either}
-use Rattle.law_round.proofs.Lawfulness.{Keeps, frame_keeps}
+use Rattle.law_round.proofs.Lawfulness.{frame_keeps}
 use Rattle.law_round.proofs.Muteness.{IsBlock, card_keeps, still, skips, block_keeps, all_keep, comes_block}
-use Rattle.law_round.proofs.Linking.{AtEnd, at_end, one_link}
 
 -- ---- truths as statements
 

@@ -1,10 +1,10 @@
 -- How a good frame comes down under a fate.
-use Rattle.std.proofs.Common.{◌≡◌, ℕ, ◌<◌, ◌^◌, ◌&&◌, Bool, true, false, List, Option, Some, None, sym, ap, ◌∙◌, subst, refl, if◌then◌else◌}
+use Rattle.std.proofs.Common.{◌≡◌, ℕ, ◌<◌, ◌^◌, ◌&&◌, Bool, true, false, List, Option, Some, None, sym, ap, subst, refl, if◌then◌else◌}
 use Rattle.ep_base.specs.declared.air.Wave.{Wave}
 use Rattle.ep_base.specs.declared.air.Wave.TheVariants.{AShort, ABare, A, B}
 use Rattle.ep_base.specs.Frame.{HasCheck, is_good, is_bare, hits, after_burst, opened, without_check}
 use Rattle.ep_base.specs.Air.{Leg, Passes, Loses, Bursts, Leaves, IsLeg}
-use Rattle.ep_base.specs.Wire.{comes_down, burst_down}
+use Rattle.ep_base.specs.Wire.{comes_down}
 use Rattle.rf_frame.proofs.Opening.{after_burst-missed}
 use Rattle.rf_frame.proofs.BurstLaw.{burst_law}
 

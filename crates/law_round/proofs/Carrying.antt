@@ -1,13 +1,11 @@
 -- A command over an open link of a field is one over the link's wire.
-use Rattle.std.proofs.Common.{◌≡◌, ℕ, true, List, [], ◌∷◌, Some, sym, ap, ◌∙◌, subst, refl}
+use Rattle.std.proofs.Common.{◌≡◌, ℕ, true, List, [], ◌∷◌, Some, ap, ◌∙◌}
 use Rattle.ep_base.specs.Hearing.{Hearing}
-use Rattle.ep_base.specs.Block.{Block}
 use Rattle.ep_base.specs.ReaderEnd.{Reader, Turn, Asks, Gives, Spends, Breaks, asked, begin}
 use Rattle.ep_base.specs.LinkFrames.{LinkSetting}
 use Rattle.ep_base.specs.Medium.{told}
-use Rattle.ep_base.specs.Apdu.{is_command}
 use Rattle.ep_base.specs.Wire.{wire}
-use Rattle.ep_base.specs.Carry.{SendsBlock, turn_on, GoesOn, Follows, AtRest, OfLink, OnceSo}
+use Rattle.ep_base.specs.Carry.{turn_on, GoesOn, Follows}
 use Rattle.ep_base.specs.Field.{Field, field}
 use Rattle.law_wire.proofs.Carrying.{carried_once_lem}
 use Rattle.law_round.specs.Acting.{is_open, shown}

@@ -1,5 +1,5 @@
 -- S(DESELECT) executes nothing.
-use Rattle.std.proofs.Common.{◌≡◌, ℕ, nat_lt, ◌&&◌, Bool, true, false, List, [], ◌∷◌, ◌++◌, length, Option, Some, None, sym, ap, ◌∙◌, subst, refl, append-nil, if◌then◌else◌}
+use Rattle.std.proofs.Common.{◌≡◌, ℕ, nat_lt, ◌&&◌, Bool, true, false, List, [], ◌++◌, length, Option, None, sym, ap, ◌∙◌, subst, refl, append-nil, if◌then◌else◌}
 use Rattle.std.specs.Prelude.{not}
 use Rattle.std.proofs.lemmas.Bool.{and_parts}
 use Rattle.ep_base.specs.declared.air.CardKind.{CardKind}
@@ -8,15 +8,11 @@ use Rattle.ep_base.specs.Frame.{sealed, opened}
 use Rattle.ep_base.specs.Hearing.{Hearing, same_wave, wave_of_kind}
 use Rattle.ep_base.specs.Block.{Deselect}
 use Rattle.ep_base.specs.CardEnd.{is_halted}
-use Rattle.ep_base.specs.Spelling.{Read, spelled, read_block}
-use Rattle.ep_base.specs.LinkFrames.{LinkSetting}
+use Rattle.ep_base.specs.Spelling.{Read, spelled}
 use Rattle.ep_base.specs.Air.{Leg, IsLeg, next_fate}
-use Rattle.ep_base.specs.Medium.{told}
-use Rattle.ep_base.specs.Wire.{comes_down, Party, Heeded, unmoved, takes_read, takes_opened, takes_frame, takes_down, Wire, wire_heeds, wire_send}
-use Rattle.ep_base.specs.Carry.{SendsBlock}
-use Rattle.ep_base.specs.Field.{Field, field}
+use Rattle.ep_base.specs.Wire.{comes_down, Party, Heeded, unmoved, takes_read, takes_opened, takes_frame, takes_down, Wire, wire_send}
 use Rattle.law_wire.proofs.Reading.{opened_spelled, spelled_reads}
-use Rattle.law_round.specs.Acting.{linked_at, are_passages, is_open, shown}
+use Rattle.law_round.specs.Acting.{linked_at, are_passages, shown}
 use Rattle.law_round.specs.Once.{ClosesQuietly}
 use Rattle.law_round.proofs.Presenting.{either}
 use Rattle.law_round.proofs.Arriving.{Arrival, Lost, Whole, Damaged, arrives}
@@ -63,8 +59,7 @@ closes_quietly_law set n s t heard good sends =
     let a = field_acts_law set n s Deselect heard t good sends in
     let passages : are_passages s.air.fates ≡ true = (and_parts (linked_at kind s.air.gone n s.cards) (are_passages s.air.fates) good).1 in
     let idles = down_idles kind (shown n s).party (not s.air.gone && nat_lt (length s.log) s.room) (next_fate s.air.fates).down (next_down s.air.fates passages) in
-    let same : (wire_send (shown n s) w bytes).1 ≡ shown n t = ap (λ (x : Option Hearing × Wire). x.1) a.0 in
-    (
+    let same : (wire_send (shown n s) w bytes).1 ≡ shown n t = ap (λ (x : Option Hearing × Wire). x.1) a.0 in (
       sym (ap (λ (x : Wire). x.log) same) ∙ ap (λ e. s.log ++ e) idles.executed ∙ append-nil s.log,
       sym (ap (λ (x : Wire). x.party.image) same) ∙ idles.image,
       a.1,

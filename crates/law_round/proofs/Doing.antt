@@ -1,5 +1,5 @@
 -- What a card does with the reader's frames in a round.
-use Rattle.std.proofs.Common.{◌≡◌, ℕ, ◌+◌, ◌*◌, ◌/◌, ◌%◌, nat_eq, ◌&&◌, Bool, true, false, List, [], ◌∷◌, length, Option, Some, None, sym, ap, ◌∙◌, subst, refl, arith, if◌then◌else◌}
+use Rattle.std.proofs.Common.{◌≡◌, ℕ, ◌+◌, ◌*◌, ◌/◌, ◌%◌, nat_eq, ◌&&◌, Bool, true, false, List, [], ◌∷◌, length, Option, Some, None, sym, ap, subst, refl, arith}
 use Rattle.std.specs.Prelude.{slice_index}
 use Rattle.std.specs.Str.{bytes_eq}
 use Rattle.std.proofs.lemmas.Bool.{and_parts}
@@ -16,8 +16,8 @@ use Rattle.ep_base.specs.Field.{Outside, OfA, OfB, outside_after, outside_reply}
 use Rattle.rf_frame.proofs.Opening.{opened_sealed}
 use Rattle.law_round.specs.Inside.{a_inside, b_inside, is_inside}
 use Rattle.law_round.specs.Lawful.{IsFour, Bytes, IsFormed}
-use Rattle.law_round.proofs.Fitting.{Early, AtLevel, Chosen, NotOpen, NotOpenB, FitsA, Begins, Next}
-use Rattle.law_round.proofs.Presenting.{takes, keeps_b, skip, selected, either, when, early_closed}
+use Rattle.law_round.proofs.Fitting.{Early, AtLevel, Chosen, NotOpen, NotOpenB, FitsA, Next}
+use Rattle.law_round.proofs.Presenting.{takes, keeps_b, selected, either, when, early_closed}
 use Rattle.law_round.proofs.PresentingB.{other_wave, its_own}
 
 -- RATS or ATTRIB was sent

@@ -1,20 +1,20 @@
 -- What the cards of a field do with a frame in a round.
-use Rattle.std.proofs.Common.{◌≡◌, ℕ, ◌+◌, nat_lt, ◌&&◌, ◌||◌, ◌⊎◌, inl, inr, Bool, true, false, List, [], ◌∷◌, ◌++◌, length, Option, Some, None, sym, ap, ◌∙◌, subst, refl, append-nil, if◌then◌else◌}
+use Rattle.std.proofs.Common.{◌≡◌, ℕ, nat_lt, ◌&&◌, ◌⊎◌, inl, inr, Bool, true, false, List, [], ◌∷◌, ◌++◌, length, Option, None, sym, ap, ◌∙◌, subst, refl, append-nil, if◌then◌else◌}
 use Rattle.ep_base.specs.declared.air.Wave.{Wave}
 use Rattle.ep_base.specs.Frame.{opened}
 use Rattle.ep_base.specs.FrameSize.{frame_size}
-use Rattle.ep_base.specs.Hearing.{Framed, Hearing, Silence, Turn, Goes, Ends, CardReply, Mute, Sends, Opens, Passes}
+use Rattle.ep_base.specs.Hearing.{Framed, Hearing, Silence, Turn, Goes, CardReply, Mute, Sends, Opens, Passes}
 use Rattle.ep_base.specs.TypeA.{Woken, Level, Select, Complete, APlan, AState, Idle, Ready, Active, Protocol, Halted, a_opened, a_card}
 use Rattle.ep_base.specs.TypeB.{BPlan, BState, BIdle, BReady, BProtocol, b_opened, b_card}
 use Rattle.ep_base.specs.Round.{Stage, Waking, Halting, WakingB, InA, InB, round_asks, round_hears}
 use Rattle.ep_base.specs.BlockField.{fresh_card}
 use Rattle.ep_base.specs.Field.{Outside, OfA, OfB, outside_after, outside_reply, outside_reset, Placed, Told, untouched, by_reply, hears_frame, one_hears, Heard, maybe_answer, and_then, all_hear}
 use Rattle.law_round.specs.Inside.{is_inside}
-use Rattle.law_round.specs.Lawful.{IsUid, IsFormed, ArePlaced, faces}
+use Rattle.law_round.specs.Lawful.{IsFormed, ArePlaced, faces}
 use Rattle.law_round.proofs.Fitting.{Chosen, NotOpen, NotOpenB, FitsA, Next}
-use Rattle.law_round.proofs.Presenting.{step_a, either, early_closed, level_closed}
+use Rattle.law_round.proofs.Presenting.{step_a, early_closed, level_closed}
 use Rattle.law_round.proofs.PresentingB.{step_b}
-use Rattle.law_round.proofs.Doing.{is_last, Does, does, not_inside, not_inside_b, four_long}
+use Rattle.law_round.proofs.Doing.{is_last, Does, does, four_long}
 use Rattle.law_round.proofs.Muteness.{still, either_way, skips}
 
 -- ---- one card

@@ -1,27 +1,26 @@
 -- A field stays lawful.
-use Rattle.std.proofs.Common.{◌≡◌, ◌≢◌, ℕ, ◌+◌, ◌-◌, ◌/◌, ◌≤◌, nat_eq, nat_lt, ◌&&◌, ◌||◌, Bool, true, false, List, [], ◌∷◌, ◌++◌, length, take, drop, Option, Some, None, sym, ap, ◌∙◌, subst, refl, arith, if◌then◌else◌}
+use Rattle.std.proofs.Common.{◌≡◌, ◌≢◌, ℕ, ◌+◌, ◌/◌, ◌≤◌, nat_eq, nat_lt, ◌&&◌, Bool, true, false, List, [], ◌∷◌, ◌++◌, length, take, drop, Option, Some, None, sym, ap, ◌∙◌, subst, refl, arith, if◌then◌else◌}
 use Rattle.std.specs.Prelude.{not}
 use Rattle.std.specs.Str.{bytes_eq}
 use Rattle.std.proofs.lemmas.Bool.{eqb-false}
 use Rattle.ep_base.specs.declared.air.CardKind.{CardKind}
 use Rattle.ep_base.specs.declared.air.Wave.{Wave}
-use Rattle.ep_base.specs.declared.air.Wave.TheVariants.{AShort, ABare, A, B}
+use Rattle.ep_base.specs.declared.air.Wave.TheVariants.{AShort, ABare, A}
 use Rattle.ep_base.specs.Frame.{opened}
 use Rattle.ep_base.specs.FrameSize.{frame_size}
 use Rattle.ep_base.specs.Hearing.{Activated, framed, same_wave, wave_of_kind, CardReply, Mute, Sends, Opens, Passes}
 use Rattle.ep_base.specs.Activation.{bit}
 use Rattle.std.specs.Prelude.{slice_index}
-use Rattle.ep_base.specs.TypeA.{APlan, AState, Idle, Ready, Active, Protocol, Halted, wupa, hlta, sel, levels, level_part, sak_of, ats_of, atqa, after_select, is_rats, a_select, a_ready, a_active, a_other, a_takes, a_opened, a_card}
-use Rattle.ep_base.specs.TypeB.{BPlan, BState}
+use Rattle.ep_base.specs.TypeA.{APlan, AState, Idle, Ready, Active, Protocol, Halted, wupa, hlta, sel, levels, level_part, sak_of, ats_of, atqa, after_select, is_rats, a_select, a_other, a_takes, a_opened, a_card}
 use Rattle.ep_base.specs.CardAnswer.{Answered, Image, IsImage, card_answer}
 use Rattle.ep_base.specs.CardEnd.{is_halted, card_hears}
 use Rattle.ep_base.specs.BlockField.{unlogged}
 use Rattle.ep_base.specs.Images.{unasked, answered}
 use Rattle.ep_base.specs.Direct.{image_rules}
 use Rattle.ep_base.specs.Spelling.{Read, Reads, Refuses, read_block}
-use Rattle.ep_base.specs.Air.{Leg, Passage, IsLeg, ArePassages, next_fate, fates_after}
+use Rattle.ep_base.specs.Air.{next_fate}
 use Rattle.ep_base.specs.Wire.{Party, Heeded, unmoved, by_commands, image_after, takes_read, takes_opened, takes_frame, comes_down}
-use Rattle.ep_base.specs.Field.{Outside, OfA, OfB, outside_after, outside_reply, outside_reset, outside_halted, Placed, Told, untouched, by_link, by_reply, hears_frame, one_hears, Heard, all_hear, left_by, away, is_present, placed_reset, all_reset, Field, field_reset, all_take, field_hears, field_send}
+use Rattle.ep_base.specs.Field.{Outside, OfA, OfB, outside_after, outside_reply, outside_reset, outside_halted, Placed, Told, untouched, by_reply, hears_frame, one_hears, all_hear, left_by, away, is_present, placed_reset, all_reset, Field, field_reset, all_take, field_hears, field_send}
 use Rattle.card_image.proofs.Kept.{deselects, card_answer_keeps}
 use Rattle.law_wire.proofs.Passing.{next_legs}
 use Rattle.law_round.specs.Lawful.{IsUid, IsFormed, AtLevelOf, Stands, kind_of, id_of, IsPlaced, ArePlaced, names, AreApart, Lawful, BeginsLawful, StaysLawful}

@@ -1,14 +1,14 @@
 -- A field in which one card is present.
-use Rattle.std.proofs.Common.{◌≡◌, ℕ, zero, suc, ◌+◌, ◌<◌, nat_lt, le-leb, ◌&&◌, ◌||◌, Bool, true, false, List, [], ◌∷◌, ◌++◌, length, Option, Some, None, sym, ap, ◌∙◌, subst, refl, append-nil, if◌then◌else◌}
+use Rattle.std.proofs.Common.{◌≡◌, ℕ, zero, suc, nat_lt, le-leb, ◌&&◌, ◌||◌, Bool, true, false, List, [], ◌∷◌, ◌++◌, length, Option, Some, sym, ap, ◌∙◌, subst, refl, append-nil, if◌then◌else◌}
 use Rattle.ep_base.specs.declared.air.Wave.{Wave}
 use Rattle.ep_base.specs.Hearing.{Framed, Hearing, RoundEnd, Turn, Goes, Ends, CardReply, Mute, Sends, Opens}
 use Rattle.ep_base.specs.Hearing as replies
 use Rattle.ep_base.specs.Round.{Stage, Waking, round_asks, round_hears}
-use Rattle.ep_base.specs.Air.{Leg, Passes, Passage, AllPass, next_fate, fates_after}
-use Rattle.ep_base.specs.Medium.{told, AfterReset}
+use Rattle.ep_base.specs.Air.{Passes, Passage, AllPass, next_fate, fates_after}
+use Rattle.ep_base.specs.Medium.{told}
 use Rattle.ep_base.specs.Polling.{AfterExchange, Plays, PlaysRound}
 use Rattle.ep_base.specs.Wire.{comes_down, comes_back}
-use Rattle.ep_base.specs.Field.{Outside, OfA, OfB, outside_after, outside_reply, outside_reset, Placed, Told, untouched, by_reply, hears_frame, one_hears, Heard, maybe_answer, and_then, all_hear, joined, left_by, leaves, away, Field, field_reset, all_take, field_hears, field_send, field}
+use Rattle.ep_base.specs.Field.{Outside, OfA, OfB, outside_after, outside_reply, Placed, Told, untouched, by_reply, hears_frame, one_hears, Heard, maybe_answer, and_then, all_hear, joined, left_by, leaves, away, Field, field_reset, all_take, field_hears, field_send, field}
 use Rattle.law_round.specs.Inside.{is_inside}
 use Rattle.law_round.specs.Lawful.{IsFormed}
 use Rattle.law_round.specs.Alone.{AreAbsent, IsAlone, AloneIn}
@@ -141,8 +141,7 @@ module _ (fsdi : ℕ) (stage : Stage) where
       ap (λ x. if x then left_by (field_hears f wave bytes).cards else (field_hears f wave bytes).cards) stays ∙ ap (λ (h : Heard). h.cards) hears in
       let log_is : (field_send f wave bytes).1.log ≡ f.log = ap (λ (h : Heard). h.log) hears ∙ a.1 in
       let says : (field_send f wave bytes).0 ≡ Some (heard o) =
-      ap (λ u. Some (comes_back u (joined (field_hears f wave bytes).answers))) pass.1 ∙ ap (λ (h : Heard). Some (joined h.answers)) hears ∙ ap (λ x. Some (joined x)) a.2 in
-      (
+      ap (λ u. Some (comes_back u (joined (field_hears f wave bytes).answers))) pass.1 ∙ ap (λ (h : Heard). Some (joined h.answers)) hears ∙ ap (λ x. Some (joined x)) a.2 in (
         says,
         record {
           card = subst (λ ps. LoneCard (outside_after wave bytes o) ps) (sym cards_are) a.0;

@@ -1,24 +1,24 @@
 -- Cards outside the block protocol don't hear blocks.
-use Rattle.std.proofs.Common.{◌≡◌, ℕ, zero, suc, ◌+◌, ◌*◌, ◌/◌, ◌%◌, ◌≤◌, nat_eq, nat_lt, nat_le, leb-true, ◌&&◌, ◌||◌, Bool, true, false, List, [], ◌∷◌, ◌++◌, length, take, drop, Option, Some, None, sym, ap, ◌∙◌, subst, refl, arith, ne_eqb, append-nil, if◌then◌else◌}
+use Rattle.std.proofs.Common.{◌≡◌, ℕ, zero, suc, ◌/◌, ◌%◌, ◌≤◌, nat_eq, nat_lt, leb-true, ◌&&◌, ◌||◌, Bool, true, false, List, [], ◌∷◌, ◌++◌, length, take, drop, Option, Some, None, sym, ap, ◌∙◌, subst, refl, arith, ne_eqb, append-nil, if◌then◌else◌}
 use Rattle.std.specs.Prelude.{slice_index}
 use Rattle.std.specs.Str.{bytes_eq}
 use Rattle.std.proofs.lemmas.Bool.{and_parts}
 use Rattle.ep_base.specs.declared.air.CardKind.{CardKind}
 use Rattle.ep_base.specs.declared.air.CardKind.TheVariants as kinds
 use Rattle.ep_base.specs.declared.air.Wave.{Wave}
-use Rattle.ep_base.specs.declared.air.Wave.TheVariants.{AShort, ABare, A, B}
-use Rattle.ep_base.specs.Frame.{sealed, opened, is_good, HasCheck}
+use Rattle.ep_base.specs.declared.air.Wave.TheVariants.{A, B}
+use Rattle.ep_base.specs.Frame.{sealed, opened, is_good}
 use Rattle.ep_base.specs.FrameSize.{frame_size}
 use Rattle.ep_base.specs.Hearing.{framed, CardReply, Mute, Sends, Opens, wave_of_kind}
 use Rattle.ep_base.specs.Activation.{bit}
-use Rattle.ep_base.specs.TypeA.{sel, APlan, AState, Idle, Ready, Active, Protocol, Halted, a_takes, a_opened, a_card, a_select, a_ready, a_active, a_other, ats_of}
-use Rattle.ep_base.specs.TypeB.{attrib_of, BPlan, BState, BIdle, BReady, BProtocol, b_takes, b_opened, b_card, b_other, b_ready, atqb_of}
+use Rattle.ep_base.specs.TypeA.{sel, APlan, AState, Idle, Ready, Active, Protocol, Halted, a_takes, a_opened, a_card, a_select, a_other, ats_of}
+use Rattle.ep_base.specs.TypeB.{BPlan, BState, BIdle, BReady, BProtocol, b_takes, b_opened, b_card, b_other, atqb_of}
 use Rattle.ep_base.specs.Air.{Leg, IsLeg}
 use Rattle.ep_base.specs.Block.{Block, I, RAck, RNak, Deselect, Wtx}
 use Rattle.ep_base.specs.Spelling.{spelled}
 use Rattle.ep_base.specs.Wire.{comes_down}
 use Rattle.ep_base.specs.Field.{Outside, OfA, OfB, outside_after, outside_reply, Placed, Told, untouched, by_reply, hears_frame, one_hears, Heard, and_then, all_hear}
-use Rattle.rf_frame.proofs.Opening.{ends_sealed, opened_sealed}
+use Rattle.rf_frame.proofs.Opening.{ends_sealed}
 use Rattle.law_wire.proofs.Reading.{opened_spelled}
 use Rattle.law_round.specs.Inside.{a_out, b_out, is_out, all_out}
 use Rattle.law_round.specs.Muteness.{OthersMute}

@@ -1,6 +1,6 @@
 -- A round leaves no other card of Type A in Protocol.
-use Rattle.std.proofs.Common.{◌≡◌, ℕ, zero, suc, ◌+◌, ◌-◌, ◌*◌, ◌/◌, ◌%◌, ◌<◌, ◌≤◌, ◌==◌, nat_eq, nat_lt, ◌&&◌, Bool, true, false, List, [], ◌∷◌, ◌++◌, length, take, drop, Option, Some, None, sym, ap, ◌∙◌, subst, refl, arith, eq-eqb, ne_eqb, if◌then◌else◌}
-use Rattle.std.specs.Prelude.{slice_index, not, Result, Ok, Err}
+use Rattle.std.proofs.Common.{◌≡◌, ℕ, zero, suc, ◌+◌, ◌-◌, ◌*◌, ◌/◌, ◌%◌, ◌≤◌, ◌==◌, nat_eq, nat_lt, ◌&&◌, Bool, true, false, List, [], ◌∷◌, ◌++◌, length, take, drop, Option, Some, None, sym, ap, ◌∙◌, subst, refl, arith, eq-eqb, if◌then◌else◌}
+use Rattle.std.specs.Prelude.{slice_index, Result, Ok, Err}
 use Rattle.std.specs.Str.{bytes_eq}
 use Rattle.ep_base.specs.declared.air.Wave.{Wave}
 use Rattle.ep_base.specs.declared.air.Wave.TheVariants.{AShort, ABare, A, B}
@@ -11,15 +11,15 @@ use Rattle.ep_base.specs.declared.activation.AtsFault.{AtsFault}
 use Rattle.ep_base.specs.declared.activation.Atqb.{Atqb}
 use Rattle.ep_base.specs.declared.activation.AtqbFault.{AtqbFault}
 use Rattle.ep_base.specs.Frame.{sealed, opened}
-use Rattle.ep_base.specs.Hearing.{Activated, RoundEnd, Empty, Collision, Unsupported, Broken, Found, Fails, CardReply, Mute, Sends, Opens, Passes, Hearing, Silence, Noise, Overlap, Frame, Turn, Goes, Ends, framed, same_wave, says_opened, on_answer, awaited, is_silent}
+use Rattle.ep_base.specs.Hearing.{Activated, Empty, Collision, Unsupported, Broken, Found, Fails, CardReply, Mute, Sends, Opens, Hearing, Silence, Noise, Overlap, Frame, Turn, Goes, Ends, framed, same_wave, says_opened, on_answer, awaited, is_silent}
 use Rattle.ep_base.specs.Activation.{ats, atqb, bit}
 use Rattle.ep_base.specs.FrameSize.{frame_size}
-use Rattle.ep_base.specs.TypeA.{AStage, Woken, Level, Select, Complete, sel, bcc, is_level, continues, a_says, a_hears, after_sak, after_ats, APlan, AState, Idle, Ready, Active, Protocol, Halted, levels, level_part, sak_of, ats_of, after_select, a_takes, a_opened, a_card, a_active, a_other}
-use Rattle.ep_base.specs.TypeB.{BStage, attrib_of, b_found, b_says, after_atqb}
+use Rattle.ep_base.specs.TypeA.{AStage, Woken, Level, Select, Complete, sel, is_level, continues, a_says, a_hears, after_sak, after_ats, APlan, AState, Idle, Ready, Active, Protocol, Halted, levels, level_part, sak_of, ats_of, after_select, a_takes, a_opened, a_card}
+use Rattle.ep_base.specs.TypeB.{BStage, b_says, after_atqb}
 use Rattle.ep_base.specs.Round.{Stage, Waking, Halting, WakingB, InA, InB, round_asks, round_hears, in_a, in_b}
 use Rattle.law_round.specs.Lawful.{IsUid, Four, Seven, Ten}
 use Rattle.law_round.proofs.Fitting.{Early, Begins, AtLevel, Chosen, NotOpen, FitsA, NextA, EndsA}
-use Rattle.rf_frame.proofs.Opening.{same_bytes, opened_sealed}
+use Rattle.rf_frame.proofs.Opening.{opened_sealed}
 
 -- where another level follows, the card that sent this level has another one, and what is read stays its UID's beginning
 more : (uid : List ℕ) → IsUid uid → (n : ℕ) (before : List ℕ) → 1 ≤ n → n ≤ levels uid → take (3 * (n - 1)) uid ≡ before

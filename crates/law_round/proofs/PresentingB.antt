@@ -1,17 +1,16 @@
 -- A round leaves no other card of Type B in Protocol.
-use Rattle.std.proofs.Common.{◌≡◌, ℕ, zero, suc, ◌==◌, ◌%◌, nat_eq, nat_lt, ◌&&◌, Bool, true, false, List, [], ◌∷◌, ◌++◌, length, take, drop, Option, Some, None, sym, ap, ◌∙◌, subst, refl, arith, length-append, if◌then◌else◌}
-use Rattle.std.specs.Prelude.{slice_index, not}
+use Rattle.std.proofs.Common.{◌≡◌, ℕ, ◌==◌, ◌%◌, nat_eq, nat_lt, ◌&&◌, true, false, List, [], ◌∷◌, ◌++◌, length, take, drop, Option, Some, None, sym, ap, ◌∙◌, subst, refl, arith, length-append}
+use Rattle.std.specs.Prelude.{slice_index}
 use Rattle.std.specs.Str.{bytes_eq}
 use Rattle.std.proofs.Math.Seq.{take-append_seam}
 use Rattle.std.proofs.lemmas.Bool.{and_parts}
 use Rattle.ep_base.specs.declared.air.Wave.{Wave}
 use Rattle.ep_base.specs.declared.air.Wave.TheVariants.{AShort, ABare, A, B}
-use Rattle.ep_base.specs.declared.air.CardKind.TheVariants as kinds
 use Rattle.ep_base.specs.Frame.{sealed, opened}
-use Rattle.ep_base.specs.Hearing.{Activated, RoundEnd, Empty, Collision, Unsupported, Broken, Found, Fails, CardReply, Mute, Sends, Opens, Passes, same_wave, Hearing, Turn, Goes, Ends, framed}
+use Rattle.ep_base.specs.Hearing.{RoundEnd, Empty, Collision, Unsupported, Broken, Found, CardReply, Mute, Sends, Opens, same_wave, Hearing, Turn, Goes, Ends, framed}
 use Rattle.ep_base.specs.FrameSize.{frame_size}
 use Rattle.ep_base.specs.TypeA.{Woken, Level, Select, Complete}
-use Rattle.ep_base.specs.TypeB.{BStage, attrib_of, b_hears, b_says, BPlan, BState, BIdle, BReady, BProtocol, atqb_of, is_attrib, b_takes, b_opened, b_card, b_other}
+use Rattle.ep_base.specs.TypeB.{BStage, attrib_of, b_says, BPlan, BState, BIdle, BReady, BProtocol, atqb_of, is_attrib, b_takes, b_opened, b_card}
 use Rattle.ep_base.specs.Round.{Stage, Waking, Halting, WakingB, InA, InB, round_asks, round_hears, in_b}
 use Rattle.law_round.proofs.Fitting.{NotOpenB, NextB, EndsB}
 use Rattle.rf_frame.proofs.Opening.{opened_sealed}

@@ -1,28 +1,23 @@
 -- After a round that ended with a card, its link is ready for a command.
-use Rattle.std.proofs.Common.{◌≡◌, ℕ, ◌+◌, ◌*◌, ◌<◌, ◌≤◌, ◌==◌, nat_lt, leb-true, ◌&&◌, Bool, true, false, List, [], ◌∷◌, ◌++◌, length, Some, sym, ap, ◌∙◌, subst, refl, arith, if◌then◌else◌}
+use Rattle.std.proofs.Common.{◌≡◌, ℕ, ◌+◌, ◌≤◌, true, false, List, [], ◌∷◌, ◌++◌, length, Some, sym, ap, ◌∙◌, subst, refl}
 use Rattle.ep_base.specs.declared.air.CardKind.{CardKind}
-use Rattle.ep_base.specs.FrameSize.{frame_size}
 use Rattle.ep_base.specs.Hearing.{Activated, Found}
 use Rattle.ep_base.specs.CardEnd.{Card, is_halted}
 use Rattle.ep_base.specs.CardAnswer.{IsImage}
 use Rattle.ep_base.specs.Dialogue as dialogue
-use Rattle.ep_base.specs.LinkFrames.{LinkSetting}
 use Rattle.ep_base.specs.BlockField.{fresh_card}
-use Rattle.ep_base.specs.Air.{ArePassages}
 use Rattle.ep_base.specs.Medium.{told}
-use Rattle.ep_base.specs.Polling.{PlaysRound}
 use Rattle.ep_base.specs.Wire.{Party}
-use Rattle.ep_base.specs.Carry.{AtRest, OfLink}
-use Rattle.ep_base.specs.Field.{Placed, Field, field}
+use Rattle.ep_base.specs.Carry.{AtRest}
+use Rattle.ep_base.specs.Field.{Placed, field}
 use Rattle.law_round.specs.Inside.{is_out, all_out}
-use Rattle.law_round.specs.Lawful.{IsPlaced, ArePlaced, Lawful}
+use Rattle.law_round.specs.Lawful.{IsPlaced, ArePlaced}
 use Rattle.law_round.specs.Linked.{HasLink}
-use Rattle.law_round.specs.Acting.{is_link, linked_at, are_passages, is_open, party_at, shown, IsReady, OpensWire}
-use Rattle.law_round.proofs.Presenting.{either, when}
+use Rattle.law_round.specs.Acting.{is_link, linked_at, are_passages, party_at, IsReady, OpensWire}
 use Rattle.std.proofs.lemmas.Bool.{and_parts}
 use Rattle.law_round.proofs.Acting.{Place, Link, from_link, passages_truth}
 use Rattle.law_round.proofs.Sizing.{frame_sized, round_sized}
-use Rattle.law_round.proofs.Linking.{AtEnd, at_end, one_link, keeps_cards_law}
+use Rattle.law_round.proofs.Linking.{at_end, one_link, keeps_cards_law}
 
 at_rest : (c : Card) → c ≡ fresh_card → AtRest dialogue.opened c
 at_rest c e = subst (λ x. AtRest dialogue.opened x) (sym e) (record { differ = refl; closed = refl; fresh = refl; none_taken = refl; none_left = refl; none_logged = refl; unhalted = refl })

@@ -1,15 +1,13 @@
 -- A whole round over a field.
-use Rattle.std.proofs.Common.{◌≡◌, ℕ, zero, suc, ◌+◌, ◌*◌, ◌<◌, nat_lt, ◌||◌, ◌⊎◌, inl, inr, Bool, true, false, List, [], ◌∷◌, ◌++◌, length, Option, Some, None, sym, ap, ◌∙◌, subst, refl, arith, if◌then◌else◌}
-use Rattle.std.specs.Prelude.{slice_index, Result, Ok, Err, ◌==◌, ◌%◌, ◌&&◌}
+use Rattle.std.proofs.Common.{◌≡◌, ℕ, zero, suc, ◌+◌, ◌*◌, nat_lt, ◌||◌, ◌⊎◌, inl, inr, Bool, true, false, List, [], ◌∷◌, length, Option, Some, None, sym, ap, ◌∙◌, subst, refl, arith, if◌then◌else◌}
+use Rattle.std.specs.Prelude.{slice_index, Result, Ok, Err, ◌==◌}
 use Rattle.ep_base.specs.declared.air.Wave.{Wave}
-use Rattle.ep_base.specs.declared.air.Wave.TheVariants.{AShort, ABare, A, B}
-use Rattle.ep_base.specs.declared.activation.Ats.{Ats}
-use Rattle.ep_base.specs.declared.activation.AtsFault.{AtsFault}
+use Rattle.ep_base.specs.declared.air.Wave.TheVariants.{ABare, A, B}
 use Rattle.ep_base.specs.declared.activation.Atqb.{Atqb}
 use Rattle.ep_base.specs.declared.activation.AtqbFault.{AtqbFault}
-use Rattle.ep_base.specs.Activation.{ats, atqb, bit}
+use Rattle.ep_base.specs.Activation.{atqb, bit}
 use Rattle.ep_base.specs.Frame.{is_good}
-use Rattle.ep_base.specs.Hearing.{Asked, Hearing, Silence, Activated, RoundEnd, Empty, Collision, Unsupported, Broken, Found, Turn, Goes, Ends, is_silent}
+use Rattle.ep_base.specs.Hearing.{Asked, Hearing, Silence, RoundEnd, Empty, Collision, Unsupported, Broken, Found, Turn, Goes, Ends, is_silent}
 use Rattle.ep_base.specs.TypeA.{AStage, Woken, Level, Select, Complete, sel, hlta, is_level, continues, a_asks, a_says, a_hears, after_sak}
 use Rattle.ep_base.specs.TypeB.{BStage, wupb, attrib_of, after_atqb, b_found, b_hears}
 use Rattle.ep_base.specs.Round.{Stage, Waking, Halting, WakingB, InA, InB, round_asks, round_hears, in_a, in_b}
@@ -27,7 +25,7 @@ use Rattle.law_round.proofs.Fitting.{Next}
 use Rattle.law_round.proofs.Presenting.{either, answered}
 use Rattle.law_round.proofs.Doing.{is_last}
 use Rattle.law_round.proofs.Lawfulness.{lawful_reset, lawful_send}
-use Rattle.law_round.proofs.Hearing.{CardFits, AllFits, AnyInside, AllHeed, all_heed, full_hear, AllAway, away_hear, damaged_hear, silent_fits}
+use Rattle.law_round.proofs.Hearing.{AllFits, AnyInside, all_heed, full_hear, AllAway, away_hear, damaged_hear, silent_fits}
 
 -- ---- turns that end with a card
 

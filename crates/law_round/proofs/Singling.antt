@@ -1,5 +1,5 @@
 -- A round in which one card is alone ends with it.
-use Rattle.std.proofs.Common.{◌≡◌, ℕ, Some, sym, ap, ◌∙◌}
+use Rattle.std.proofs.Common.{◌≡◌, Some, ap, ◌∙◌}
 use Rattle.ep_base.specs.Hearing.{RoundEnd, Found, Turn, Goes, Ends}
 use Rattle.ep_base.specs.TypeA.{Idle}
 use Rattle.ep_base.specs.TypeB.{BIdle}

@@ -1,6 +1,6 @@
 -- The frame size of the card with which a round ends.
-use Rattle.std.proofs.Common.{◌≡◌, ℕ, zero, suc, ◌+◌, ◌*◌, ◌<◌, ◌≤◌, ◌==◌, nat_lt, leb-true, ◌&&◌, Bool, true, false, List, length, Option, Some, None, sym, ap, ◌∙◌, subst, refl, arith, if◌then◌else◌}
-use Rattle.std.specs.Prelude.{slice_index, Result, Ok, Err, not, ◌%◌, ◌/◌}
+use Rattle.std.proofs.Common.{◌≡◌, ℕ, zero, suc, ◌+◌, ◌*◌, ◌<◌, ◌≤◌, ◌==◌, nat_lt, leb-true, ◌&&◌, true, false, List, length, Option, Some, None, subst, refl, arith}
+use Rattle.std.specs.Prelude.{slice_index, Result, Ok, not, ◌%◌, ◌/◌}
 use Rattle.ep_base.specs.declared.air.Wave.TheVariants.{ABare, A, B}
 use Rattle.ep_base.specs.declared.activation.Ats.{Ats}
 use Rattle.ep_base.specs.declared.activation.AtsFault.{AtsFault}
@@ -10,7 +10,7 @@ use Rattle.ep_base.specs.FrameSize.{frame_size}
 use Rattle.ep_base.specs.Activation.{ats, atqb, bit, announced, ats_fwi}
 use Rattle.ep_base.specs.Hearing.{Hearing, Activated, RoundEnd, Empty, Collision, Unsupported, Broken, Found, Turn, Goes, Ends, is_silent}
 use Rattle.ep_base.specs.TypeA.{AStage, Woken, Level, Select, Complete, is_level, continues, a_says, after_sak, after_ats}
-use Rattle.ep_base.specs.TypeB.{BStage, b_says, after_atqb}
+use Rattle.ep_base.specs.TypeB.{b_says, after_atqb}
 use Rattle.ep_base.specs.Round.{Stage, Waking, Halting, WakingB, InA, InB, round_hears, in_a, in_b}
 use Rattle.ep_base.specs.Medium.{MediumSteps}
 use Rattle.ep_base.specs.Polling.{AfterExchange, Plays, PlaysRound}

@@ -1,21 +1,19 @@
 -- A round with one card of Type A alone.
-use Rattle.std.proofs.Common.{◌≡◌, ℕ, zero, suc, ◌+◌, ◌-◌, ◌*◌, ◌/◌, ◌%◌, ◌<◌, ◌≤◌, ◌==◌, nat_eq, nat_lt, ◌&&◌, Bool, true, false, List, [], ◌∷◌, ◌++◌, length, take, drop, get_or, Option, Some, None, Ok, Err, sym, ap, ◌∙◌, refl, arith, eq-eqb, ne_eqb, if◌then◌else◌}
+use Rattle.std.proofs.Common.{◌≡◌, ℕ, zero, suc, ◌+◌, ◌*◌, ◌/◌, ◌%◌, ◌<◌, ◌==◌, nat_eq, nat_lt, ◌&&◌, Bool, true, false, List, [], ◌∷◌, ◌++◌, length, take, drop, Option, None, Ok, sym, ap, ◌∙◌, refl, arith, eq-eqb, ne_eqb, if◌then◌else◌}
 use Rattle.std.proofs.lemmas.Bool.{lt-leb}
 use Rattle.std.specs.Prelude.{slice_index, not}
 use Rattle.std.specs.Str.{bytes_eq}
-use Rattle.ep_base.specs.declared.air.Wave.{Wave}
-use Rattle.ep_base.specs.declared.air.Wave.TheVariants.{AShort, ABare, A, B}
-use Rattle.ep_base.specs.Frame.{sealed, opened}
-use Rattle.ep_base.specs.Hearing.{Framed, framed, Hearing, Silence, Frame, Turn, Goes, Ends, says_opened, on_answer, Says, RoundEnd, Broken, Unsupported, Found, CardReply, Mute, Sends, Opens}
+use Rattle.ep_base.specs.declared.air.Wave.TheVariants.{ABare, A, B}
+use Rattle.ep_base.specs.Hearing.{framed, Goes, Ends, says_opened, on_answer, RoundEnd, Broken, Unsupported, Found, CardReply, Mute, Sends, Opens}
 use Rattle.ep_base.specs.Activation.{ats, bit, waiting, announced}
 use Rattle.ep_base.specs.FrameSize.{frame_size}
-use Rattle.ep_base.specs.TypeA.{AStage, Woken, Level, Select, Complete, sel, bcc, is_level, continues, a_says, after_sak, after_ats, APlan, AState, Idle, Ready, Active, Protocol, Halted, atqa, levels, level_part, level_bytes, sak_of, ats_of, after_select, a_takes, a_opened, a_card}
-use Rattle.ep_base.specs.Round.{Stage, Waking, Halting, WakingB, InA, InB, round_asks, round_hears, in_a}
-use Rattle.ep_base.specs.Field.{Outside, OfA, OfB, joined}
+use Rattle.ep_base.specs.TypeA.{Woken, Level, Select, Complete, sel, bcc, is_level, continues, a_says, after_sak, after_ats, APlan, AState, Idle, Ready, Active, Protocol, Halted, atqa, level_part, sak_of, ats_of, after_select, a_takes, a_opened, a_card}
+use Rattle.ep_base.specs.Round.{Stage, Waking, Halting, WakingB, InA, round_asks, round_hears, in_a}
+use Rattle.ep_base.specs.Field.{Outside, OfA, joined}
 use Rattle.law_round.specs.Lawful.{IsUid, Four, Seven, Ten}
 use Rattle.law_round.specs.Alone.{FollowsA, found_a}
 use Rattle.rf_frame.proofs.Opening.{same_bytes, opened_sealed}
-use Rattle.law_round.proofs.Lone.{lone, sent, solo}
+use Rattle.law_round.proofs.Lone.{sent, solo}
 
 -- one exchange in which the card does `x` with the message that its frame opens to
 pub by_message : (n fsdi : ℕ) (p : APlan) (s : AState) (stage : Stage) (o : Option (List ℕ)) (x : AState × CardReply)
@@ -110,7 +108,6 @@ after_last level uid part sak a b c =
     ap (λ x. if x then (if continues level part then Goes (Level (level + 1) (uid ++ take 3 (drop 1 part))) else Ends Broken) else (if continues level part then Ends Broken else (if bit sak 32 == 1 then Goes (Complete (uid ++ take 4 part)) else Ends Unsupported))) a
     ∙ ap (λ x. if x then Ends Broken else (if bit sak 32 == 1 then Goes (Complete (uid ++ take 4 part)) else Ends Unsupported)) c
     ∙ ap (λ x. if x then Goes (Complete (uid ++ take 4 part)) else Ends Unsupported) b
-
 
 -- the whole round, by the UID's length
 pub by_uid : (fsdi : ℕ) (uid : List ℕ) → IsUid uid → (sak fsci fwi : ℕ) (historical : List ℕ) → fsdi < 16

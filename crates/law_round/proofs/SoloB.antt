@@ -1,21 +1,17 @@
 -- A round with one card of Type B alone.
-use Rattle.std.proofs.Common.{◌≡◌, ℕ, zero, suc, ◌+◌, ◌-◌, ◌*◌, ◌/◌, ◌%◌, ◌<◌, ◌≤◌, ◌==◌, nat_eq, nat_lt, ◌&&◌, Bool, true, false, List, [], ◌∷◌, ◌++◌, length, take, drop, Option, Some, None, Ok, Err, sym, ap, ◌∙◌, refl, arith, eq-eqb, ne_eqb, le-leb, if◌then◌else◌}
-use Rattle.std.specs.Prelude.{slice_index, not}
+use Rattle.std.proofs.Common.{◌≡◌, ℕ, zero, suc, ◌+◌, ◌*◌, ◌/◌, ◌<◌, ◌==◌, ◌&&◌, Bool, true, false, List, [], ◌∷◌, Ok, ap, ◌∙◌, refl, arith, le-leb, if◌then◌else◌}
 use Rattle.std.specs.Str.{bytes_eq}
-use Rattle.ep_base.specs.declared.air.Wave.{Wave}
-use Rattle.ep_base.specs.declared.air.Wave.TheVariants.{AShort, ABare, A, B}
-use Rattle.ep_base.specs.declared.air.CardKind.TheVariants as Kinds
-use Rattle.ep_base.specs.Frame.{sealed, opened}
-use Rattle.ep_base.specs.Hearing.{Framed, framed, Hearing, Silence, Frame, Turn, Goes, Ends, says_opened, on_answer, Says, RoundEnd, Broken, Unsupported, Found, CardReply, Mute, Sends, Opens}
+use Rattle.ep_base.specs.declared.air.Wave.TheVariants.{B}
+use Rattle.ep_base.specs.Hearing.{framed, Goes, Ends, says_opened, on_answer, RoundEnd, Found, CardReply, Mute, Sends, Opens}
 use Rattle.ep_base.specs.Activation.{atqb, bit, waiting}
 use Rattle.ep_base.specs.FrameSize.{frame_size}
-use Rattle.ep_base.specs.TypeB.{BStage, attrib_of, b_says, after_atqb, BPlan, BState, BIdle, BReady, BProtocol, atqb_of, is_attrib, b_takes, b_opened, b_card}
-use Rattle.ep_base.specs.Round.{Stage, Waking, Halting, WakingB, InA, InB, round_asks, round_hears, in_b}
-use Rattle.ep_base.specs.Field.{Outside, OfA, OfB, joined}
+use Rattle.ep_base.specs.TypeB.{BStage, attrib_of, b_says, after_atqb, BPlan, BState, BIdle, BReady, BProtocol, atqb_of, b_takes, b_opened, b_card}
+use Rattle.ep_base.specs.Round.{Stage, Waking, WakingB, InB, round_asks, round_hears, in_b}
+use Rattle.ep_base.specs.Field.{Outside, OfB, joined}
 use Rattle.law_round.specs.Lawful.{IsFour, Bytes}
-use Rattle.law_round.specs.Alone.{FollowsB, found_b}
+use Rattle.law_round.specs.Alone.{found_b}
 use Rattle.rf_frame.proofs.Opening.{same_bytes, opened_sealed}
-use Rattle.law_round.proofs.Lone.{lone, sent, solo}
+use Rattle.law_round.proofs.Lone.{sent, solo}
 
 by_message : (n fsdi : ℕ) (p : BPlan) (s : BState) (stage : Stage) (x : BState × CardReply)
     → b_card p s (round_asks fsdi stage).wave (round_asks fsdi stage).bytes ≡ x

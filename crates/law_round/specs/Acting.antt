@@ -6,7 +6,6 @@ use Rattle.ep_base.specs.FrameSize.{frame_size}
 use Rattle.ep_base.specs.Hearing.{Activated, Found, same_kind}
 use Rattle.ep_base.specs.Block.{same}
 use Rattle.ep_base.specs.CardEnd.{is_halted}
-use Rattle.ep_base.specs.CardAnswer.{Image}
 use Rattle.ep_base.specs.Dialogue.{opened}
 use Rattle.ep_base.specs.LinkFrames.{LinkSetting}
 use Rattle.ep_base.specs.BlockField.{fresh_card}

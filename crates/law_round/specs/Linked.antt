@@ -2,13 +2,12 @@
 use Rattle.std.specs.Prelude.{◌≡◌, ℕ, true, false, List, [], ◌∷◌, ◌++◌, Option, Some}
 use Rattle.ep_base.specs.FrameSize.{frame_size}
 use Rattle.ep_base.specs.Hearing.{Activated, RoundEnd, Found}
-use Rattle.ep_base.specs.Air.{ArePassages}
 use Rattle.ep_base.specs.Medium.{told}
 use Rattle.ep_base.specs.Polling.{PlaysRound}
 use Rattle.ep_base.specs.BlockField.{fresh_card}
 use Rattle.ep_base.specs.Field.{Placed, Field, field}
 use Rattle.law_round.specs.Inside.{is_inside, all_out}
-use Rattle.law_round.specs.Lawful.{IsFormed, kind_of, id_of, Lawful, faces, reset_faces}
+use Rattle.law_round.specs.Lawful.{kind_of, id_of, Lawful, faces, reset_faces}
 
 -- Each of these cards that is in the block protocol is the one that was found (ISO/IEC 14443-3).
 abbrev pub AreFound : Activated → List Placed → Type 0
