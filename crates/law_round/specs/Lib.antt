@@ -6,3 +6,4 @@ pub mod Lawful
 pub mod Linked
 pub mod Muteness
 pub mod Once
+pub mod Polled

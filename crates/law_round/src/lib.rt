@@ -11,6 +11,7 @@ ghost use Rattle.law_round.specs.Lawful.{BeginsLawful, StaysLawful};
 ghost use Rattle.law_round.specs.Linked.{KeepsCards, LinksOne, OnlyFound};
 ghost use Rattle.law_round.specs.Muteness.{OthersMute};
 ghost use Rattle.law_round.specs.Once.{ClosesQuietly, OnceInField};
+ghost use Rattle.law_round.specs.Polled.{PollsQuietly};
 
 /// A field of a document's cards is lawful, and stays so in each reset and each exchange, whatever the frame.
 ///
@@ -44,6 +45,12 @@ pub fn links_one()
 /// application is selected.
 pub fn keeps_cards()
     ensures { KeepsCards }
+{}
+
+/// Polling over a lawful field never fails, executes nothing, and leaves plans and images as they are, but for the
+/// selected applications. Where it ends with a card, its last round does.
+pub fn polls_quietly()
+    ensures { PollsQuietly }
 {}
 
 /// A field with an open link is the wire of that link: after a round over a lawful field that ends with a card, the link
