@@ -16,12 +16,13 @@ use Rattle.ep_base.specs.LinkFrames.{LinkSetting}
 use Rattle.ep_base.specs.Air.{Leg, Bursts, Leaves, IsLeg, Passage, ArePassages, next_fate, fates_after, gone_by}
 use Rattle.ep_base.specs.Air as legs
 use Rattle.ep_base.specs.Wire.{Party, Heeded, unmoved, takes_opened, takes_frame, takes_down, aired, comes_down, comes_back, Wire, moved, wire_heeds, wire_send}
-use Rattle.ep_base.specs.Field.{Outside, OfA, OfB, outside_after, outside_reply, outside_halted, Placed, Told, untouched, by_link, by_reply, hears_frame, one_hears, Heard, maybe_answer, and_then, all_hear, joined, left_by, leaves, away, Field, all_take, field_hears, field_after, field_send}
+use Rattle.ep_base.specs.Field.{Outside, OfA, OfB, outside_after, outside_reply, outside_halted, outside_reset, Placed, Told, untouched, by_link, by_reply, hears_frame, one_hears, Heard, maybe_answer, and_then, all_hear, joined, left_by, leaves, away, Field, all_take, field_hears, field_after, field_send}
 use Rattle.law_round.specs.Inside.{is_inside, is_out, all_out}
-use Rattle.law_round.specs.Lawful.{kind_of}
-use Rattle.law_round.specs.Acting.{is_leg, are_passages, is_link, linked_at, is_open, party_at, shown, FieldActs}
+use Rattle.law_round.specs.Lawful.{kind_of, names, faces}
+use Rattle.law_round.specs.Acting.{is_leg, are_passages, is_link, linked_at, is_open, party_at, without, shown, OthersStay, FieldActs}
 use Rattle.law_round.proofs.Presenting.{either}
-use Rattle.law_round.proofs.Lawfulness.{frame_keeps}
+use Rattle.law_round.proofs.Lawfulness.{frame_keeps, names_send}
+use Rattle.law_round.proofs.Rounds.{faces_left}
 use Rattle.law_round.proofs.Muteness.{IsBlock, card_keeps, still, skips, block_keeps, all_keep, comes_block}
 
 -- ---- truths as statements
@@ -179,38 +180,40 @@ module _ (kind : CardKind) (gone : Bool) (bytes : List ℕ) (block : IsBlock (op
 
   -- ---- all cards
 
-  record AllAct (n : ℕ) (before : List (ℕ × List ℕ)) (h : Heard) (e : Heeded) : Type 0 where
+  record AllAct (n : ℕ) (before : List (ℕ × List ℕ)) (ps : List Placed) (h : Heard) (e : Heeded) : Type 0 where
     party : party_at n h.cards ≡ e.party
     log : h.log ≡ before ++ e.executed
     answers : h.answers ≡ maybe_answer e.answer []
     linked : linked_at kind gone n h.cards ≡ true
+    others : without n h.cards ≡ without n ps
 
-  first_acts : (log : List (ℕ × List ℕ)) (ps : List Placed) (t : Told) (e : Heeded) → Acts kind gone t e → all_out ps ≡ true
-      → AllAct zero log (and_then t (record { cards = ps; log = log ++ t.executed; answers = [] })) e
-  first_acts log ps t e a out =
+  first_acts : (log : List (ℕ × List ℕ)) (p : Placed) (ps : List Placed) (t : Told) (e : Heeded) → Acts kind gone t e → all_out ps ≡ true
+      → AllAct zero log (p ∷ ps) (and_then t (record { cards = ps; log = log ++ t.executed; answers = [] })) e
+  first_acts log p ps t e a out =
       let is : is_link kind gone t.card ≡ true = from_link kind gone t.card a.link in
       record {
         party = a.party;
         log = ap (λ x. log ++ x) a.executed;
         answers = ap (λ x. maybe_answer x []) a.answer;
         linked = rw (is, out) refl;
+        others = refl;
       }
 
   all_act : (n : ℕ) (room : ℕ) (log : List (ℕ × List ℕ)) (ps : List Placed) → linked_at kind gone n ps ≡ true
-      → AllAct n log (all_hear room (wave_of_kind kind) bytes log ps) (if not gone && nat_lt (length log) room then takes_frame (party_at n ps) (wave_of_kind kind) bytes else unmoved (party_at n ps))
+      → AllAct n log ps (all_hear room (wave_of_kind kind) bytes log ps) (if not gone && nat_lt (length log) room then takes_frame (party_at n ps) (wave_of_kind kind) bytes else unmoved (party_at n ps))
   all_act n room log [] l = cc
   all_act zero room log (p ∷ ps) l =
       let parts = and_parts (is_link kind gone p) (all_out ps) l in
       let t = one_hears room (wave_of_kind kind) bytes log p in
       let e = (if not gone && nat_lt (length log) room then takes_frame p.party (wave_of_kind kind) bytes else unmoved p.party) in
-      subst (λ (h : Heard). AllAct zero log (and_then t h) e) (sym (all_keep kind bytes room (log ++ t.executed) ps block parts.1))
-      (first_acts log ps t e (one_acts room log p (to_link kind gone p parts.0)) parts.1)
+      subst (λ (h : Heard). AllAct zero log (p ∷ ps) (and_then t h) e) (sym (all_keep kind bytes room (log ++ t.executed) ps block parts.1))
+      (first_acts log p ps t e (one_acts room log p (to_link kind gone p parts.0)) parts.1)
   all_act (suc n) room log (p ∷ ps) l =
       let parts = and_parts (is_out p.outside) (linked_at kind gone n ps) l in
       let x = all_act n room log ps parts.1 in
       let e = (if not gone && nat_lt (length log) room then takes_frame (party_at n ps) (wave_of_kind kind) bytes else unmoved (party_at n ps)) in
-      subst (λ (h : Heard). AllAct (suc n) log h e) (sym (skips room (wave_of_kind kind) bytes log p ps (block_keeps kind bytes room log p block parts.0)))
-      (record { party = x.party; log = x.log; answers = x.answers; linked = rw (parts.0, x.linked) refl })
+      subst (λ (h : Heard). AllAct (suc n) log (p ∷ ps) h e) (sym (skips room (wave_of_kind kind) bytes log p ps (block_keeps kind bytes room log p block parts.0)))
+      (record { party = x.party; log = x.log; answers = x.answers; linked = rw (parts.0, x.linked) refl; others = ap (λ l. p ∷ l) x.others })
 
 -- ---- one exchange
 
@@ -259,6 +262,15 @@ linked_after kind false n (Bursts start mask) legs.Passes ps l = l
 linked_after kind false n (Bursts start mask) legs.Loses ps l = l
 linked_after kind false n (Bursts start mask) (Bursts from other) ps l = l
 
+left_others : (n : ℕ) (ps : List Placed) → faces (without n (left_by ps)) ≡ faces (without n ps)
+left_others n [] = refl
+left_others zero (p ∷ ps) = faces_left ps
+left_others (suc n) (p ∷ ps) = ap (λ l. record { plan = outside_reset p.outside; kind = p.party.kind; image = p.party.image } ∷ l) (left_others n ps)
+
+others_after : (n : ℕ) (gone : Bool) (ps : List Placed) → faces (without n (if gone then left_by ps else ps)) ≡ faces (without n ps)
+others_after n true ps = left_others n ps
+others_after n false ps = refl
+
 one_aired : (a : Option Framed) → joined (maybe_answer a []) ≡ aired a
 one_aired None = refl
 one_aired (Some f) = refl
@@ -285,6 +297,7 @@ module _ (set : LinkSetting) (n : ℕ) (b : Block) (f : Field) (good : is_open s
     log : (all_take f wave o).log ≡ f.log ++ (takes_down (party_at n f.cards) wave (if there then o else None)).executed
     answers : (all_take f wave o).answers ≡ maybe_answer (takes_down (party_at n f.cards) wave (if there then o else None)).answer []
     stays : linked_at set.kind f.air.gone n (all_take f wave o).cards ≡ true
+    others : without n (all_take f wave o).cards ≡ without n f.cards
 
   none_or : (free : Bool) → takes_down (party_at n f.cards) wave (if free then None else None) ≡ unmoved (party_at n f.cards)
   none_or true = refl
@@ -302,6 +315,7 @@ module _ (set : LinkSetting) (n : ℕ) (b : Block) (f : Field) (good : is_open s
         log = sym (append-nil f.log) ∙ sym (ap (λ (h : Heeded). f.log ++ h.executed) e);
         answers = sym (ap (λ (h : Heeded). maybe_answer h.answer []) e);
         stays = linked;
+        others = refl;
       }
   takes_same (Some bytes) block =
       let e = some_or there bytes in
@@ -311,6 +325,7 @@ module _ (set : LinkSetting) (n : ℕ) (b : Block) (f : Field) (good : is_open s
         log = x.log ∙ sym (ap (λ (h : Heeded). f.log ++ h.executed) e);
         answers = x.answers ∙ sym (ap (λ (h : Heeded). maybe_answer h.answer []) e);
         stays = x.linked;
+        others = x.others;
       }
 
   abbrev down : Option (List ℕ)
@@ -348,6 +363,16 @@ module _ (set : LinkSetting) (n : ℕ) (b : Block) (f : Field) (good : is_open s
       let first = linked_after set.kind f.air.gone n (next_fate f.air.fates).down (next_fate f.air.fates).up cards_heard.cards taken.stays in
       let rest = next_passages f.air.fates passages in
       rw (first, rest) refl
+
+  pub others_same : faces (without n (field_send f wave frame).1.cards) ≡ faces (without n f.cards)
+  others_same = others_after n (away (next_fate f.air.fates)) cards_heard.cards ∙ ap (λ ps. faces ps) taken.others
+
+pub others_stay_law : OthersStay
+others_stay_law set n b heard s t good sends =
+    let e : field_send s (wave_of_kind set.kind) (sealed (wave_of_kind set.kind) (spelled b)) ≡ (heard, t) = sends in (
+      subst (λ (x : Option Hearing × Field). faces (without n x.1.cards) ≡ faces (without n s.cards)) e (others_same set n b s good),
+      subst (λ (x : Option Hearing × Field). names x.1.cards ≡ names s.cards) e (names_send s (wave_of_kind set.kind) (sealed (wave_of_kind set.kind) (spelled b))),
+    )
 
 pub field_acts_law : FieldActs
 field_acts_law set n s b heard t good sends =

@@ -205,6 +205,10 @@ lawful_send f w b h =
     let s = after_same f.cards (field_hears f w b).cards (away (next_fate f.air.fates)) (taken_same f w (comes_down (next_fate f.air.fates).down w b)) in
     record { cards = s.0 h.cards; apart = subst (λ ns. AreApart ns) (sym s.1) h.apart; fates = (next_legs f.air.fates h.fates).2 }
 
+pub names_send : (f : Field) (w : Wave) (b : List ℕ) → names (field_send f w b).1.cards ≡ names f.cards
+names_send f w b =
+    (after_same f.cards (field_hears f w b).cards (away (next_fate f.air.fates)) (taken_same f w (comes_down (next_fate f.air.fates).down w b))).1
+
 pub begins_lawful_law : BeginsLawful
 begins_lawful_law = (
   λ plan image u i. record { formed = u; stands = tt; kind = refl; image = i },

@@ -116,7 +116,7 @@ good_frame fsdi (InA (Select n before part)) = ends_sealed A (sel n ∷ 0x70 ∷
 good_frame fsdi (InA (Complete read)) = ends_sealed A (0xe0 ∷ 16 * fsdi ∷ []) (omega arith)
 good_frame fsdi (InB stage) = ends_sealed B (attrib_of stage.pupi fsdi) (omega arith)
 
-faces_left : (ps : List Placed) → faces (left_by ps) ≡ faces ps
+pub faces_left : (ps : List Placed) → faces (left_by ps) ≡ faces ps
 faces_left [] = refl
 faces_left (p ∷ ps) = ap (λ l. record { plan = outside_reset p.outside; kind = p.party.kind; image = p.party.image } ∷ l) (faces_left ps)
 

@@ -1,10 +1,10 @@
 -- A field with an open link, as the wire of that link.
-use Rattle.std.specs.Prelude.{◌≡◌, ℕ, zero, suc, ◌+◌, ◌≤◌, ◌^◌, nat_lt, ◌&&◌, Bool, true, false, not, if◌then◌else◌, List, [], ◌∷◌, ◌++◌, length, Some, None}
+use Rattle.std.specs.Prelude.{◌≡◌, ℕ, zero, suc, ◌+◌, ◌≤◌, ◌^◌, nat_lt, ◌&&◌, Bool, true, false, not, if◌then◌else◌, List, [], ◌∷◌, ◌++◌, length, Option, Some, None}
 use Rattle.ep_base.specs.declared.air.CardKind.{CardKind}
 use Rattle.ep_base.specs.declared.air.CardKind.TheVariants as kinds
 use Rattle.ep_base.specs.FrameSize.{frame_size}
-use Rattle.ep_base.specs.Hearing.{Activated, Found, same_kind}
-use Rattle.ep_base.specs.Block.{same}
+use Rattle.ep_base.specs.Hearing.{Hearing, Activated, Found, same_kind}
+use Rattle.ep_base.specs.Block.{Block, same}
 use Rattle.ep_base.specs.CardEnd.{is_halted}
 use Rattle.ep_base.specs.Dialogue.{opened}
 use Rattle.ep_base.specs.LinkFrames.{LinkSetting}
@@ -13,10 +13,10 @@ use Rattle.ep_base.specs.Air.{Leg, Passes, Loses, Bursts, Leaves, Passage}
 use Rattle.ep_base.specs.Medium.{told}
 use Rattle.ep_base.specs.Polling.{PlaysRound}
 use Rattle.ep_base.specs.Wire.{Party, Wire}
-use Rattle.ep_base.specs.Carry.{ActsAs, AtRest, OfLink}
+use Rattle.ep_base.specs.Carry.{SendsBlock, ActsAs, AtRest, OfLink}
 use Rattle.ep_base.specs.Field.{Placed, Field, field}
 use Rattle.law_round.specs.Inside.{is_inside, is_out, all_out}
-use Rattle.law_round.specs.Lawful.{kind_of, Lawful}
+use Rattle.law_round.specs.Lawful.{kind_of, names, faces, Lawful}
 use Rattle.law_round.specs.Linked.{HasLink}
 
 -- Whether a burst is one run of at most sixteen bits (this project's own).
@@ -63,6 +63,12 @@ party_at n [] = no_party
 party_at zero (p ∷ ps) = p.party
 party_at (suc n) (p ∷ ps) = party_at n ps
 
+-- All cards but the one after so many others (this project's own).
+abbrev pub without : ℕ → List Placed → List Placed
+without n [] = []
+without zero (p ∷ ps) = ps
+without (suc n) (p ∷ ps) = p ∷ without n ps
+
 -- The wire of that link (this project's own).
 abbrev pub shown : ℕ → Field → Wire
 shown n f = record { party = party_at n f.cards; log = f.log; room = f.room; air = f.air; exchanges = f.exchanges }
@@ -70,6 +76,12 @@ shown n f = record { party = party_at n f.cards; log = f.log; room = f.room; air
 -- With an open link the field carries its blocks as a wire does, and the link stays open (this project's own).
 abbrev pub FieldActs : Type 0
 FieldActs = (set : LinkSetting) (n : ℕ) → ActsAs (told field) set (is_open set.kind n) (shown n)
+
+-- A block of the link leaves the other cards as they are, up to their presence, and each card's kind and identifier (this project's own).
+abbrev pub OthersStay : Type 0
+OthersStay = (set : LinkSetting) (n : ℕ) (b : Block) (heard : Option Hearing) (s t : Field) →
+    is_open set.kind n s ≡ true → SendsBlock (told field) set s b heard t →
+    (faces (without n t.cards) ≡ faces (without n s.cards)) × (names t.cards ≡ names s.cards)
 
 -- What a command over the link needs: the link is open, its wire is as a command needs it, and both ends are at rest (this project's own).
 pub record IsReady (set : LinkSetting) (n : ℕ) (t : Field) : Type 0 where

@@ -4,13 +4,13 @@
 //! Rounds, cards, fates and the field are defined in `ep_base`; `specs/` states the laws.
 #![tactic(auto)]
 
-ghost use Rattle.law_round.specs.Acting.{FieldActs, OpensWire};
+ghost use Rattle.law_round.specs.Acting.{FieldActs, OpensWire, OthersStay};
 ghost use Rattle.law_round.specs.Alone.{OneCardA, OneCardB};
 ghost use Rattle.law_round.specs.Ending.{EndsInEleven};
 ghost use Rattle.law_round.specs.Lawful.{BeginsLawful, StaysLawful};
 ghost use Rattle.law_round.specs.Linked.{KeepsCards, LinksOne, OnlyFound};
 ghost use Rattle.law_round.specs.Muteness.{OthersMute};
-ghost use Rattle.law_round.specs.Once.{ClosesQuietly, OnceInField};
+ghost use Rattle.law_round.specs.Once.{ClosesQuietly, LeavesOthers, OnceInField, StaysReady};
 ghost use Rattle.law_round.specs.Polled.{PollsQuietly};
 
 /// A field of a document's cards is lawful, and stays so in each reset and each exchange, whatever the frame.
@@ -55,12 +55,13 @@ pub fn polls_quietly()
 
 /// A field with an open link is the wire of that link: after a round over a lawful field that ends with a card, the link
 /// is open, its wire is as a command needs it, and both ends are at rest; and while it is open, the field carries each
-/// block of the link as the wire does, whatever becomes of the frames.
+/// block of the link as the wire does, whatever becomes of the frames, and the other cards stay as they are.
 ///
 /// The log has two free records.
 pub fn field_acts()
     ensures opens { OpensWire }
     ensures acts { FieldActs }
+    ensures others { OthersStay }
 {}
 
 /// A round has at most eleven exchanges: whatever is heard, it is over after eleven answers.
@@ -81,11 +82,14 @@ pub fn one_card_b()
 {}
 
 /// Whatever becomes of the frames, a command over an open link of a field is executed once by the linked card, or at most
-/// once where the link is spent; and the link stays open. No other card executes anything.
+/// once where the link is spent; and the link stays open. The field stays lawful, and the other cards are as they were, up
+/// to their presence. After an answer the link is ready for another command, where the log has two free records then.
 ///
 /// The link is between two commands, and its wire is as a command needs it.
 pub fn once_in_field()
-    ensures { OnceInField }
+    ensures once { OnceInField }
+    ensures others { LeavesOthers }
+    ensures ready { StaysReady }
 {}
 
 /// Whatever becomes of its frame, S(DESELECT) over an open link of a field executes nothing, and leaves the linked card's
