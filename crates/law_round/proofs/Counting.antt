@@ -22,7 +22,7 @@ a_left (Level n before) = 9 - 2 * n
 a_left (Select n before part) = 8 - 2 * n
 a_left (Complete read) = 1
 
-abbrev left : Turn Stage → ℕ
+abbrev pub left : Turn Stage → ℕ
 left (Goes Waking) = 11
 left (Goes Halting) = 10
 left (Goes (WakingB woke)) = 9
@@ -37,7 +37,7 @@ AtMostThree (Level n before) = (1 ≤ n) × (n ≤ 3)
 AtMostThree (Select n before part) = (1 ≤ n) × (n ≤ 3)
 AtMostThree (Complete read) = Unit {0}
 
-abbrev Leveled : Turn Stage → Type 0
+abbrev pub Leveled : Turn Stage → Type 0
 Leveled (Goes Waking) = Unit {0}
 Leveled (Goes Halting) = Unit {0}
 Leveled (Goes (WakingB woke)) = Unit {0}
@@ -45,7 +45,7 @@ Leveled (Goes (InA stage)) = AtMostThree stage
 Leveled (Goes (InB stage)) = Unit {0}
 Leveled (Ends e) = Unit {0}
 
-abbrev Leaves : ℕ → Turn Stage → Type 0
+abbrev pub Leaves : ℕ → Turn Stage → Type 0
 Leaves k t = Leveled t × (left t ≤ k)
 
 next_level : (n : ℕ) (before part : List ℕ) → 1 ≤ n → continues n part ≡ true → Leaves (7 - 2 * n) (in_a (Goes (Level (n + 1) (before ++ take 3 (drop 1 part)))))
@@ -88,7 +88,7 @@ b_leaves stage heard =
     answered (λ t. Leaves 0 (in_b t)) (b_says stage) B heard (tt, omega arith) (tt, omega arith)
     (λ m. either (λ t. Leaves 0 (in_b t)) (nat_lt 0 (length m) && (slice_index m 0 % 16 == 0)) _ _ (tt, omega arith) (tt, omega arith))
 
-leaves : (stage : Stage) (heard : Hearing) → Leveled (Goes stage) → Leaves (left (Goes stage) - 1) (round_hears stage heard)
+pub leaves : (stage : Stage) (heard : Hearing) → Leveled (Goes stage) → Leaves (left (Goes stage) - 1) (round_hears stage heard)
 leaves Waking heard h = either (λ s. Leaves 10 (Goes s)) (is_silent heard) (WakingB false) Halting (tt, omega arith) (tt, omega arith)
 leaves Halting heard h = (tt, omega arith)
 leaves (WakingB true) heard h = either (Leaves 8) (is_silent heard) _ _ (tt, omega arith) (tt, omega arith)
@@ -104,7 +104,7 @@ a_one (Level n before) h = omega (arith, h.0, h.1)
 a_one (Select n before part) h = omega (arith, h.0, h.1)
 a_one (Complete read) h = omega arith
 
-one_left : (stage : Stage) → Leveled (Goes stage) → 1 ≤ left (Goes stage)
+pub one_left : (stage : Stage) → Leveled (Goes stage) → 1 ≤ left (Goes stage)
 one_left Waking h = omega arith
 one_left Halting h = omega arith
 one_left (WakingB woke) h = omega arith

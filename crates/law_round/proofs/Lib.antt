@@ -10,6 +10,7 @@ pub mod Lawfulness
 pub mod Linking
 pub mod Lone
 pub mod Muteness
+pub mod Playing
 pub mod Polling
 pub mod Presenting
 pub mod PresentingB

@@ -6,7 +6,7 @@
 
 ghost use Rattle.law_round.specs.Acting.{FieldActs, OpensWire, OthersStay};
 ghost use Rattle.law_round.specs.Alone.{OneCardA, OneCardB};
-ghost use Rattle.law_round.specs.Ending.{EndsInEleven};
+ghost use Rattle.law_round.specs.Ending.{AlwaysPlays, EndsInEleven};
 ghost use Rattle.law_round.specs.Lawful.{BeginsLawful, StaysLawful};
 ghost use Rattle.law_round.specs.Linked.{KeepsCards, LinksOne, OnlyFound};
 ghost use Rattle.law_round.specs.Muteness.{OthersMute};
@@ -64,9 +64,11 @@ pub fn field_acts()
     ensures others { OthersStay }
 {}
 
-/// A round has at most eleven exchanges: whatever is heard, it is over after eleven answers.
+/// A round has at most eleven exchanges: whatever is heard, it is over after eleven answers. Over every field there is a
+/// round.
 pub fn exchanges()
-    ensures { EndsInEleven }
+    ensures most { EndsInEleven }
+    ensures always { AlwaysPlays }
 {}
 
 /// A round in which a card of Type A that follows ISO/IEC 14443-4 is alone ends with this card.
