@@ -1,11 +1,13 @@
 -- A round with one card of Type A alone.
 use Rattle.std.proofs.Common.{◌≡◌, ℕ, zero, suc, ◌+◌, ◌*◌, ◌/◌, ◌%◌, ◌<◌, ◌==◌, nat_eq, nat_lt, ◌&&◌, Bool, true, false, List, [], ◌∷◌, ◌++◌, length, take, drop, Option, None, Ok, sym, ap, ◌∙◌, refl, arith, eq-eqb, ne_eqb, if◌then◌else◌}
 use Rattle.std.proofs.lemmas.Bool.{lt-leb}
-use Rattle.std.specs.Prelude.{slice_index, not}
+use Rattle.std.specs.Prelude.{slice_index, not, Result}
 use Rattle.std.specs.Str.{bytes_eq}
 use Rattle.ep_base.specs.declared.air.Wave.TheVariants.{ABare, A, B}
 use Rattle.ep_base.specs.Hearing.{framed, Goes, Ends, says_opened, on_answer, RoundEnd, Broken, Unsupported, Found, CardReply, Mute, Sends, Opens}
-use Rattle.ep_base.specs.Activation.{ats, bit, waiting, announced}
+use Rattle.ep_base.specs.Activation.{ats, ats_fwi, bit, waiting, announced}
+use Rattle.ep_base.specs.declared.activation.Ats.{Ats}
+use Rattle.ep_base.specs.declared.activation.AtsFault.{AtsFault}
 use Rattle.ep_base.specs.FrameSize.{frame_size}
 use Rattle.ep_base.specs.TypeA.{Woken, Level, Select, Complete, sel, bcc, is_level, continues, a_says, after_sak, after_ats, APlan, AState, Idle, Ready, Active, Protocol, Halted, atqa, level_part, sak_of, ats_of, after_select, a_takes, a_opened, a_card}
 use Rattle.ep_base.specs.Round.{Stage, Waking, Halting, WakingB, InA, round_asks, round_hears, in_a}
@@ -68,10 +70,22 @@ reads false false c d v w x y z ha hb hc hd = cc
 reads false true true d v w x y z ha hb hc hd = cc
 reads false true false true v w x y z ha hb hc hd = cc
 
+-- an ATS that is long enough for what its T0 announces
+ats_ok : (bytes : List ℕ) → nat_eq (length bytes) 0 ≡ false → nat_eq (slice_index bytes 0) (length bytes) ≡ true → nat_eq (length bytes) 1 ≡ false
+    → nat_lt (length bytes) (2 + announced (slice_index bytes 1)) ≡ false
+    → ats bytes ≡ Ok (record { fsc = frame_size (slice_index bytes 1 % 16); fwi = ats_fwi bytes (slice_index bytes 1) })
+unfolding ats
+ats_ok bytes a b c d = reads (nat_eq (length bytes) 0) (nat_eq (slice_index bytes 0) (length bytes)) (nat_eq (length bytes) 1) (nat_lt (length bytes) (2 + announced (slice_index bytes 1))) _ _ _ _ _ a b c d
+
+fwi_read : (bytes : List ℕ) (t0 : ℕ) → bit t0 16 ≡ 0 → bit t0 32 ≡ 1 → ats_fwi bytes t0 ≡ waiting (slice_index bytes 2 / 16)
+fwi_read bytes t0 ta tb = ap (λ n. if n == 1 then waiting (slice_index bytes (2 + bit t0 16) / 16) else 4) tb ∙ ap (λ n. waiting (slice_index bytes (2 + n) / 16)) ta
+
+ok_by : (r : Result Ats AtsFault) (a b c d : ℕ) → r ≡ Ok (record { fsc = a; fwi = b }) → a ≡ c → b ≡ d → r ≡ Ok (record { fsc = c; fwi = d })
+ok_by r a b c d e f g = e ∙ ap (λ n. Ok (record { fsc = n; fwi = b })) f ∙ ap (λ n. Ok (record { fsc = c; fwi = n })) g
+
 -- what a card's ATS says
 ats_read : (len fsci fwi : ℕ) (historical : List ℕ) → length historical ≡ len → fsci < 16
     → ats ((3 + len) ∷ (0x20 + fsci) ∷ (16 * fwi) ∷ historical) ≡ Ok (record { fsc = frame_size fsci; fwi = waiting fwi })
-unfolding ats
 ats_read len fsci fwi historical e h =
     let bytes : List ℕ = (3 + len) ∷ (0x20 + fsci) ∷ (16 * fwi) ∷ historical in
     let t0 : ℕ = 0x20 + fsci in
@@ -81,12 +95,9 @@ ats_read len fsci fwi historical e h =
     let tc : bit t0 64 ≡ 0 = omega arith in
     let low : t0 % 16 ≡ fsci = omega arith in
     let high : 16 * fwi / 16 ≡ fwi = omega arith in
-    reads (nat_eq (length bytes) 0) (nat_eq (3 + len) (length bytes)) (nat_eq (length bytes) 1) (nat_lt (length bytes) (2 + announced t0)) _ _ _ _ _
-    (ne_eqb _ _ (λ x. absurd (omega arith))) (eq-eqb _ _ (sym long)) (ne_eqb _ _ (λ x. absurd (omega arith))) (lt-leb _ _ (omega arith))
-    ∙ ap (λ n. Ok (record { fsc = frame_size n; fwi = (if bit t0 32 == 1 then waiting (slice_index bytes (2 + bit t0 16) / 16) else 4) })) low
-    ∙ ap (λ n. Ok (record { fsc = frame_size fsci; fwi = (if n == 1 then waiting (slice_index bytes (2 + bit t0 16) / 16) else 4) })) tb
-    ∙ ap (λ n. Ok (record { fsc = frame_size fsci; fwi = waiting (slice_index bytes (2 + n) / 16) })) ta
-    ∙ ap (λ n. Ok (record { fsc = frame_size fsci; fwi = waiting n })) high
+    ok_by (ats bytes) (frame_size (t0 % 16)) (ats_fwi bytes t0) (frame_size fsci) (waiting fwi)
+    (ats_ok bytes (ne_eqb _ _ (λ x. absurd (omega arith))) (eq-eqb _ _ (sym long)) (ne_eqb _ _ (λ x. absurd (omega arith))) (lt-leb _ _ (omega arith)))
+    (ap frame_size low) (fwi_read bytes t0 ta tb ∙ ap waiting high)
 
 -- RATS
 pub opens : (n fsdi : ℕ) (p : APlan) → fsdi < 16 → FollowsA p
