@@ -1,4 +1,4 @@
--- What a card's end of a link stands for in the block protocol.
+-- What a card's end of a link stands for in the block protocol (this project's own).
 use Rattle.std.specs.Prelude.{◌≡◌, ℕ, ◌+◌, ◌-◌, nat_lt, Bool, true, false, if◌then◌else◌, List, [], ◌∷◌, length, take, drop, Option, Some, None}
 use Rattle.ep_base.specs.declared.air.CardKind.{CardKind}
 use Rattle.ep_base.specs.Block.{Block, I, RAck, Deselect, Wtx}
@@ -21,6 +21,7 @@ pub record HeldCard : Type 0 where
   pub wtx : ℕ
   pub wtxm : ℕ
 
+-- What a card's end holds, in plain data (this project's own).
 abbrev pub held_card : CardEnd → HeldCard
 held_card e = record {
   kind = e.kind;
@@ -40,6 +41,7 @@ abbrev pub parts_from : ℕ → List ℕ → ℕ → List (List ℕ)
 parts_from size bytes place =
     if nat_lt place (length bytes) then (cut size (drop place bytes)).first ∷ (cut size (drop place bytes)).others else []
 
+-- What is left to send: the S(WTX) that were announced, or the parts from a place on (this project's own).
 abbrev pub left_by : Bool → ℕ → List ℕ → ℕ → ℕ → ℕ → Rules.Left
 left_by true size response place wtx wtxm = Rules.Waits wtx wtxm (cut size response).first (cut size response).others
 left_by false size response place wtx wtxm = Rules.Parts (parts_from size response place)
@@ -48,6 +50,7 @@ left_by false size response place wtx wtxm = Rules.Parts (parts_from size respon
 abbrev pub left_shown : HeldCard → Rules.Left
 left_shown e = left_by e.waiting (e.fsd - 3) e.response e.place e.wtx e.wtxm
 
+-- A last block by its kind (this project's own).
 abbrev pub last_by : L.Last → Bool → ℕ → List ℕ → ℕ → Option Block
 last_by L.TheVariants.Nothing number size response wtxm = None
 last_by L.TheVariants.Ack number size response wtxm = Some (RAck number)
@@ -74,6 +77,7 @@ card_of e = record { number = e.number; last = last_shown e; taken = e.taken; le
 abbrev pub kind_of : CardEnd → CardKind
 kind_of e = (held_card e).kind
 
+-- The size of the reader's frames (this project's own).
 abbrev pub fsd_of : CardEnd → ℕ
 fsd_of e = (held_card e).fsd
 

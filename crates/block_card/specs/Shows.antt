@@ -1,5 +1,5 @@
--- What a card's end does with a frame, by the rules of the block protocol.
-use Rattle.std.specs.Prelude.{◌≡◌, ℕ, ◌≤◌, Bool, true, false, List, [], ◌∷◌, ◌++◌, length, Option, Some, None}
+-- What a card's end does with a frame, by the rules of the block protocol (this project's own).
+use Rattle.std.specs.Prelude.{◌≡◌, ℕ, Bool, true, false, List, [], ◌∷◌, ◌++◌, Option, Some, None}
 use Rattle.ep_base.specs.declared.air.CardKind.{CardKind}
 use Rattle.ep_base.specs.Apdu.{is_command}
 use Rattle.ep_base.specs.Hearing.{wave_of_kind}
@@ -45,6 +45,7 @@ abbrev pub ShowsRead : CardNext → HeldCard → HeldCard → Card → Read → 
 ShowsRead next old new c (Reads block) = Shows next new c block
 ShowsRead next old new c (Refuses fault) = Stays next old new
 
+-- The same for a card that was halted, and for one that wasn't (this project's own).
 abbrev pub ShowsOpen : Bool → CardNext → HeldCard → HeldCard → Card → List ℕ → Type 0
 ShowsOpen true next old new c message = Stays next old new
 ShowsOpen false next old new c message = ShowsRead next old new c (read_block message)
@@ -60,9 +61,11 @@ Replies S.TheVariants.Mute e a = IsCard e a.card × (a.block ≡ None)
 Replies S.TheVariants.Send e a = IsCard e a.card × (a.block ≡ last_shown e)
 Replies S.TheVariants.Execute e a = ⊥
 
+-- A step that answers leaves the log as it was (this project's own).
 abbrev pub StepAnswers : S.Step → HeldCard → Card → Answer → Type 0
 StepAnswers step e c a = Replies step e a × (a.card.log ≡ c.log)
 
+-- What a step does with a block, whatever the image (this project's own).
 abbrev pub StepShows : S.Step → HeldCard → Card → Block → Type 0
 StepShows S.TheVariants.Mute e c block = (image : Image) → StepAnswers S.TheVariants.Mute e c (card_hears e.fsd image c block)
 StepShows S.TheVariants.Send e c block = (image : Image) → StepAnswers S.TheVariants.Send e c (card_hears e.fsd image c block)

@@ -2,6 +2,7 @@
 ghost use Rattle.std.specs.Prelude.{◌≡◌, ℕ, ◌≤◌, List};
 ghost use Rattle.std.specs.Option.{option_copied};
 ghost use Rattle.ep_base.specs.BlockField.{fresh_card};
+ghost use Rattle.ep_base.specs.Hearing.{wave_of_kind};
 ghost use Rattle.ep_base.specs.CardEnd.{Card, answers, is_halted};
 ghost use Rattle.block_card.specs.declared.held.CardNext.TheVariants as next;
 ghost use Rattle.block_card.specs.Held.{IsCard, held_card, card_of, kind_of, fsd_of};
@@ -11,7 +12,7 @@ use crate::held::{CardEnd, CardNext, Last};
 use apdu::Response;
 use arrayvec::ArrayVec;
 use block_pcb::decode;
-use ep_base::{CardKind, FrameBuf};
+use ep_base::{CardKind, FrameBuf, Wave};
 
 impl CardEnd {
     /// The end of a card of this kind that was just activated, whose reader has frames of this size: one that
@@ -84,10 +85,13 @@ impl CardEnd {
         matches!(self.last, Last::Deselected)
     }
 
-    /// The card's kind.
-    pub fn kind(&self) -> CardKind
-        ensures value { result ≡ kind_of self.now }
+    /// The wave of the card's frames.
+    pub fn wave(&self) -> Wave
+        ensures value { result ≡ wave_of_kind (kind_of self.now) }
     {
-        self.kind
+        match self.kind {
+            CardKind::A => Wave::A,
+            CardKind::B => Wave::B,
+        }
     }
 }

@@ -2,7 +2,6 @@
 ghost use Rattle.std.specs.Prelude.{◌≡◌, ℕ, ◌≤◌, ◌-◌, ◌==◌, Some, List, drop};
 ghost use Rattle.ep_base.specs.Spelling.{spelled};
 ghost use Rattle.ep_base.specs.Frame.{sealed};
-ghost use Rattle.ep_base.specs.Hearing.{wave_of_kind};
 ghost use Rattle.ep_base.specs.Parts.{cut};
 ghost use Rattle.ep_base.specs.CardEnd.{sends_part};
 ghost use Rattle.block_pcb.specs.Meaning.{block_of, InRange};
@@ -14,27 +13,17 @@ ghost use Rattle.block_card.specs.Shows.{Replies, Says};
 
 use crate::held::{CardEnd, CardNext, Last};
 use block_pcb::{Block, encode};
-use ep_base::{CardKind, FrameBuf, Wave};
+use ep_base::{FrameBuf, Wave};
 use rf_frame::seal;
 
-// The wave of a kind's frames with check bytes.
-fn wave_of(kind: CardKind) -> Wave
-    ensures { result ≡ wave_of_kind kind }
-{
-    match kind {
-        CardKind::A => Wave::A,
-        CardKind::B => Wave::B,
-    }
-}
-
 // A block in a frame with its check bytes.
-fn frame_of(kind: CardKind, block: &Block<'_>) -> FrameBuf
+fn frame_of(wave: Wave, block: &Block<'_>) -> FrameBuf
     requires { InRange block.now }
-    ensures { result.items ≡ sealed (wave_of_kind kind) (spelled (block_of block.now)) }
+    ensures { result.items ≡ sealed wave (spelled (block_of block.now)) }
 {
     let mut frame = FrameBuf::new();
     encode(block, &mut frame);
-    seal(wave_of(kind), &mut frame);
+    seal(wave, &mut frame);
     frame
 }
 
@@ -107,7 +96,7 @@ impl CardEnd {
         requires { HasLast self.now.last }
         ensures { Says (next.Send result) self.now.kind (last_shown (held_card self.now)) }
     {
-        frame_of(self.kind, &self.last_block())
+        frame_of(self.wave(), &self.last_block())
     }
 
     // Says the block that was sent last, if there is one.

@@ -1,4 +1,4 @@
--- What blocks, and bytes that were read as such, stand for in plain data.
+-- What blocks, and bytes that were read as such, stand for in plain data (this project's own).
 use Rattle.std.specs.Prelude.{◌≤◌, ◌==◌, length, Result, Ok, Err}
 use Rattle.ep_base.specs.Block as plain
 use Rattle.ep_base.specs.Spelling.{Read, Reads, Refuses}
@@ -6,6 +6,7 @@ use Rattle.ep_base.specs.declared.blocks.BlockFault.{BlockFault}
 use Rattle.block_pcb.specs.declared.blocks.Block.{Block}
 use Rattle.block_pcb.specs.declared.blocks.Block.TheVariants.{I, RAck, RNak, Deselect, Wtx}
 
+-- A block in plain data (this project's own).
 abbrev pub block_of : Block → plain.Block
 block_of (I number chained inf) = plain.I (number == 1) chained inf.now
 block_of (RAck number) = plain.RAck (number == 1)
@@ -13,6 +14,7 @@ block_of (RNak number) = plain.RNak (number == 1)
 block_of Deselect = plain.Deselect
 block_of (Wtx power wtxm) = plain.Wtx power wtxm
 
+-- What bytes were read as, in plain data (this project's own).
 abbrev pub decoded_of : Result Block BlockFault → Read
 decoded_of (Ok block) = Reads (block_of block)
 decoded_of (Err fault) = Refuses fault

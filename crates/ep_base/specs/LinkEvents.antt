@@ -43,9 +43,11 @@ then_stands set (Gives response r) ks (Hears h) = record { turn = Gives response
 then_stands set (Spends r) ks e = record { turn = Spends r; kept = ks }
 then_stands set (Breaks r) ks e = record { turn = Breaks r; kept = ks }
 
+-- The standing after one more event (this project's own).
 abbrev pub then_link : LinkSetting → Standing → LinkEvent → Standing
 then_link set st e = then_stands set st.turn st.kept e
 
+-- The standing after further events (this project's own).
 abbrev pub standing_from : LinkSetting → Standing → List LinkEvent → Standing
 standing_from set st [] = st
 standing_from set st (e ∷ es) = standing_from set (then_link set st e) es

@@ -1,6 +1,12 @@
 //! The program at work: what no clause says is the text of a whole purchase, that memory can be had, and what faults of
 //! source and sink leave behind.
 
+mod edits;
+mod kernels;
+mod limits;
+mod refusals;
+mod selection;
+
 use crate::serve::serve;
 use crate::status::{Status, fault_text};
 use ep_base::{Line, MemorySink, MemorySource};

@@ -7,7 +7,7 @@ use Rattle.std.proofs.lemmas.Option.{unwrap_or-slice_get, get_or_from_slice_get,
 use Rattle.std.proofs.lemmas.List.Elements.{All-set, All-get_or}
 use Rattle.ep_base.specs.Hearing.{Activated}
 use Rattle.ep_base.specs.Apdu.{same_bytes, is_command, command_data, ppse_name, is_9000}
-use Rattle.ep_base.specs.CardAnswer.{Answered, Answers, Rule, App, Image, IsResponse, AreAnswers, IsRule, IsApp, IsImage, used_once, file_not_found, is_select, app_answer, app_selected, by_app, by_place, select_answer, ppse_answer, rule_used, app_with, by_rule, by_rule_place, app_executes, with_app, in_app, other_answer, card_answer}
+use Rattle.ep_base.specs.CardAnswer.{Answered, Answers, Rule, App, Image, IsResponse, AreAnswers, IsRule, IsApp, IsImage, IsAnswer, used_once, file_not_found, is_select, app_answer, app_selected, by_app, by_place, select_answer, ppse_answer, rule_used, app_with, by_rule, by_rule_place, app_executes, with_app, in_app, other_answer, card_answer}
 use Rattle.ep_base.specs.Direct.{image_rules}
 use Rattle.law_transaction.specs.Documents.{LinkedImage}
 use Rattle.law_transaction.proofs.Keeping.{Keeps}
@@ -81,18 +81,20 @@ with_app_keeps i n a h g = record {
 record Fits {X : Type 0} (P : X → Type 0) (a : Answered × X) : Type 0 where
   response : IsResponse a.0.response
   waits : a.0.wtx ≤ 8
+  wtxm_least : 1 ≤ a.0.wtxm
+  wtxm_most : a.0.wtxm ≤ 59
   within : P a.1
 
 -- the rules of an application
 module _ (a : App) (is : IsApp a) where
   rule_fits : (k : ℕ) (o : Option Rule) → slice_get a.rules k ≡ o → Fits IsApp (by_rule a k o)
-  rule_fits k None e = record { response = record { least = omega arith; most = omega arith }; waits = omega arith; within = is }
+  rule_fits k None e = record { response = record { least = omega arith; most = omega arith }; waits = omega arith; wtxm_least = omega arith; wtxm_most = omega arith; within = is }
   rule_fits k (Some r) e =
       let rule : IsRule r = element IsRule a.rules k r is.each_rule e in
-      record { response = next_within [] r.responses.list r.responses.used rule.answers.each rule.some; waits = rule.waits; within = with_rule_keeps a k (rule_used r) is (rule_keeps r rule) }
+      record { response = next_within [] r.responses.list r.responses.used rule.answers.each rule.some; waits = rule.waits; wtxm_least = rule.wtxm_least; wtxm_most = rule.wtxm_most; within = with_rule_keeps a k (rule_used r) is (rule_keeps r rule) }
 
   rule_place_fits : (o : Option ℕ) → Fits IsApp (by_rule_place a o)
-  rule_place_fits None = record { response = record { least = omega arith; most = omega arith }; waits = omega arith; within = is }
+  rule_place_fits None = record { response = record { least = omega arith; most = omega arith }; waits = omega arith; wtxm_least = omega arith; wtxm_most = omega arith; within = is }
   rule_place_fits (Some k) = rule_fits k (slice_get a.rules k) refl
 
   executes_fits : (command : List ℕ) → Fits IsApp (app_executes a command)
@@ -103,6 +105,8 @@ module _ (i : Image) (w : IsImage i) where
   ppse_fits = record {
     response = next_or file_not_found i.ppse.list i.ppse.used w.answers.each (record { least = omega arith; most = omega arith });
     waits = omega arith;
+    wtxm_least = omega arith;
+    wtxm_most = omega arith;
     within = record { answers = used_keeps i.ppse w.answers; each_app = w.each_app; few_apps = w.few_apps; place = λ n e. cc };
   }
 
@@ -123,27 +127,29 @@ module _ (i : Image) (w : IsImage i) where
   }
 
   app_fits : (n : ℕ) (o : Option App) → slice_get i.apps n ≡ o → Fits IsImage (by_app i n o)
-  app_fits n None e = record { response = record { least = omega arith; most = omega arith }; waits = omega arith; within = cleared_keeps i w }
+  app_fits n None e = record { response = record { least = omega arith; most = omega arith }; waits = omega arith; wtxm_least = omega arith; wtxm_most = omega arith; within = cleared_keeps i w }
   app_fits n (Some a) e =
       let is : IsApp a = element IsApp i.apps n a w.each_app e in
       record {
         response = next_within [] a.selects.list a.selects.used is.answers.each is.some;
         waits = is.waits;
+        wtxm_least = is.wtxm_least;
+        wtxm_most = is.wtxm_most;
         within = selected_keeps n (app_selected a) (is_9000 (app_answer a).response) (slice_get_within i.apps n a e) (app_keeps a is);
       }
 
   place_fits : (o : Option ℕ) → Fits IsImage (by_place i o)
-  place_fits None = record { response = record { least = omega arith; most = omega arith }; waits = omega arith; within = cleared_keeps i w }
+  place_fits None = record { response = record { least = omega arith; most = omega arith }; waits = omega arith; wtxm_least = omega arith; wtxm_most = omega arith; within = cleared_keeps i w }
   place_fits (Some n) = app_fits n (slice_get i.apps n) refl
 
   in_app_fits : (command : List ℕ) (n : ℕ) (o : Option App) → slice_get i.apps n ≡ o → Fits IsImage (in_app i command n o)
-  in_app_fits command n None e = record { response = record { least = omega arith; most = omega arith }; waits = omega arith; within = w }
+  in_app_fits command n None e = record { response = record { least = omega arith; most = omega arith }; waits = omega arith; wtxm_least = omega arith; wtxm_most = omega arith; within = w }
   in_app_fits command n (Some a) e =
       let f : Fits IsApp (app_executes a command) = executes_fits a (element IsApp i.apps n a w.each_app e) command in
-      record { response = f.response; waits = f.waits; within = with_app_keeps i n (app_executes a command).1 w f.within }
+      record { response = f.response; waits = f.waits; wtxm_least = f.wtxm_least; wtxm_most = f.wtxm_most; within = with_app_keeps i n (app_executes a command).1 w f.within }
 
   other_fits : (command : List ℕ) (o : Option ℕ) → Fits IsImage (other_answer i command o)
-  other_fits command None = record { response = record { least = omega arith; most = omega arith }; waits = omega arith; within = w }
+  other_fits command None = record { response = record { least = omega arith; most = omega arith }; waits = omega arith; wtxm_least = omega arith; wtxm_most = omega arith; within = w }
   other_fits command (Some n) = in_app_fits command n (slice_get i.apps n) refl
 
   by_tests : (command : List ℕ) (a b : Bool) → Fits IsImage (if a then (if b then ppse_answer i else select_answer i (command_data command)) else other_answer i command i.selected)
@@ -154,6 +160,14 @@ module _ (i : Image) (w : IsImage i) where
   answer_fits : (command : List ℕ) → Fits IsImage (card_answer i command)
   unfolding card_answer
   answer_fits command = by_tests command (is_select command) (same_bytes (command_data command) ppse_name)
+
+pub answer_is : (i : Image) (command : List ℕ) → IsImage i → IsAnswer (card_answer i command).0
+answer_is i command w = record {
+  response = (answer_fits i w command).response;
+  waits = (answer_fits i w command).waits;
+  wtxm_least = (answer_fits i w command).wtxm_least;
+  wtxm_most = (answer_fits i w command).wtxm_most;
+}
 
 command_room : (command : List ℕ) → is_command command ≡ true → length command ≤ 261
 unfolding is_command

@@ -1,5 +1,5 @@
 -- The induction over the hearings of a command.
-use Rattle.std.proofs.Common.{◌≡◌, ◌⊎◌, ℕ, ◌+◌, ◌-◌, ◌<◌, ◌≤◌, Bool, true, false, List, [], ◌∷◌, ◌++◌, length, Option, Some, refl, sym, ap, ◌∙◌, subst, inl, inr, ⊎_elim, arith, append-nil, append_assoc, length-append}
+use Rattle.std.proofs.Common.{◌≡◌, ◌⊎◌, ℕ, ◌-◌, ◌≤◌, Bool, true, false, List, [], ◌∷◌, ◌++◌, Option, Some, refl, sym, ap, ◌∙◌, subst, inl, inr, ⊎_elim, arith, append-nil, append_assoc}
 use Rattle.std.specs.Prelude.{unwrap_or}
 use Rattle.ep_base.specs.declared.air.CardKind.{CardKind}
 use Rattle.ep_base.specs.Hearing.{Framed, Hearing, Silence, wave_of_kind}
@@ -19,11 +19,10 @@ use Rattle.ep_base.specs.Spelling.{spelled}
 use Rattle.ep_base.specs.LinkFrames.{LinkSetting, heard_block}
 use Rattle.ep_base.specs.Wire.{Heeded, Wire, wire, wire_heeds, moved, unmoved, answers_by, takes_block, maybe_frame, aired, comes_back, by_commands, image_after}
 use Rattle.ep_base.specs.Carry.{SendsBlock, GoesOn, Follows, AtRest, OfLink, AtMostOnce, Executed, OnceSo, CarriedOnce}
-use Rattle.card_image.proofs.Kept.{card_answer_keeps}
 use Rattle.law_link.specs.Once.{IsImage, AreFrames, IsIdle}
 use Rattle.law_link.proofs.Exchange.{Place, Before, reader_at, card_at, Fine, Fits, GoodTurn, log_at, taken, exchange}
 use Rattle.law_link.proofs.Cutting.{cut_joins}
-use Rattle.law_transaction.proofs.Imaging.{linked_image}
+use Rattle.law_transaction.proofs.Imaging.{answer_is, linked_image}
 use Rattle.law_wire.proofs.Reading.{Sent, sent_block}
 use Rattle.law_wire.proofs.Passing.{MaySend, went, down_law, up_law, next_legs}
 use Rattle.law_wire.proofs.Imaging.{Shifted, shifted, after_after, number_after, records_append}
@@ -127,13 +126,12 @@ module _ (set : LinkSetting) (w0 : Wire) (of : OfLink set w0) where
       later : Shows u (goes_down down set.frames image card b).card
 
     -- one exchange over the wire is one over the link
-    one_exchange : MaySend set.frames.reader by_list.block → length w.log < w.room → (h : Hearing) (u : Wire) → SendsBlock (told wire) set w b (Some h) u → Exchanged h u
-    one_exchange may room h u e =
+    one_exchange : MaySend set.frames.reader by_list.block → (h : Hearing) (u : Wire) → SendsBlock (told wire) set w b (Some h) u → Exchanged h u
+    one_exchange may h u e =
         let wave = wave_of_kind set.kind in
         let bytes = sealed (wave_of_kind set.kind) (spelled b) in
         let heeded : Heeded = wire_heeds w (wave_of_kind set.kind) (sealed (wave_of_kind set.kind) (spelled b)) in
-        let open_card : is_halted w.party.card ≡ false = ap is_halted shows.end ∙ shows.unhalted in
-        let down = down_law set.kind w b shows.kind open_card (sent_block b is) shows.fates room in
+        let down = down_law set.kind w b (sent_block b is) shows.fates in
         let done_it : Done heeded = subst Done (sym down.1) (done down.0) in
         let up = up_law set.kind set.frames.reader (goes_down done_it.down set.frames image card b).block (may_send may done_it.down) (next_fate w.air.fates).up (next_legs w.air.fates shows.fates).1 in
         let hearing : comes_back (next_fate w.air.fates).up (aired heeded.answer) ≡ h = ap (λ (p : Option Hearing × Wire). unwrap_or p.0 Silence) e in
@@ -152,21 +150,11 @@ module _ (set : LinkSetting) (w0 : Wire) (of : OfLink set w0) where
     linked : IsImage image
     linked = linked_image (λ card. image0.number) image0.number image0 of.image
 
-    answer_is : IsAnswer (card_answer image0 command).0
-    answer_is = (card_answer_keeps image0 command of.image).0
+    reply_is : IsAnswer (card_answer image0 command).0
+    reply_is = answer_is image0 command of.image
 
     abbrev At : Bool → Place → List Heard → Reader
     At m place s = reader_at set.frames image [] command m place s
-
-    room_for : (w : Wire) (card : Card) → Shows w card → (card.log ≡ []) ⊎ (card.log ≡ command ∷ []) → length w.log < w.room
-    room_for w card shows logged =
-        let long : length w.log ≡ length w0.log + length (records image0.number card.log) = ap length shows.recorded ∙ length-append w0.log (records image0.number card.log) in
-        let few : length (records image0.number card.log) ≤ 1 =
-        ⊎_elim
-        (λ (e : card.log ≡ []). subst (λ (l : List (List ℕ)). length (records image0.number l) ≤ 1) (sym e) (omega arith))
-        (λ (e : card.log ≡ command ∷ []). subst (λ (l : List (List ℕ)). length (records image0.number l) ≤ 1) (sym e) (omega arith))
-        logged in
-        omega (arith, long, few, shows.room, of.room)
 
     -- the records say what the card's list says
     at_most : (w : Wire) (card : Card) → Shows w card → (card.log ≡ []) ⊎ (card.log ≡ command ∷ []) → AtMostOnce w0 command w
@@ -205,7 +193,7 @@ module _ (set : LinkSetting) (w0 : Wire) (of : OfLink set w0) where
     may_answer m place s fine fits =
         let t = taken set.frames image [] command linked legal m place s fine fits in
         subst (λ (a : Answer). MaySend set.frames.reader a.block) (sym t.is)
-        (answer_sent set.frames image [] command sized linked answer_is.wtxm_least answer_is.wtxm_most m t.next s t.fine t.answers)
+        (answer_sent set.frames image [] command sized linked reply_is.wtxm_least reply_is.wtxm_most m t.next s t.fine t.answers)
 
     Rest : List Hearing → Type 0
     Rest hs = (m : Bool) (place : Place) (s : List Heard) (w : Wire) (turn : Turn) (t : Wire) → Fine set.frames image [] command place
@@ -235,9 +223,8 @@ module _ (set : LinkSetting) (w0 : Wire) (of : OfLink set w0) where
     all_hearings (h ∷ hs) m place s w turn t fine fits le shows follows =
         let card : Card = card_at set.frames image [] command m place in
         let r : Reader = At m place s in
-        let sent : Sent (asked (At m place s)) = asked_sent set.frames image [] command sized linked answer_is.wtxm_least answer_is.wtxm_most m place s fits in
-        let room : length w.log < w.room = room_for w (card_at set.frames image [] command m place) shows (log_at set.frames image [] command m place) in
-        let x = one_exchange w (card_at set.frames image [] command m place) shows (asked (At m place s)) sent (may_answer m place s fine fits) room h follows.0 follows.1 in
+        let sent : Sent (asked (At m place s)) = asked_sent set.frames image [] command sized linked reply_is.wtxm_least reply_is.wtxm_most m place s fits in
+        let x = one_exchange w (card_at set.frames image [] command m place) shows (asked (At m place s)) sent (may_answer m place s fine fits) h follows.0 follows.1 in
         let good = exchange set.frames image [] command sized linked legal m place s fine fits le x.down x.up in
         let on = subst (λ (k : Heard). GoesOn (λ q v. Follows (told wire) set hs q v turn t) (reader_hears set.frames.reader (At m place s) k) hs follows.0 turn t) x.heard follows.2 in
         then_rest hs (all_hearings hs) turn t _ _ follows.0 good x.later on

@@ -1,20 +1,20 @@
 -- A frame comes as it was sent, or it isn't taken for a block.
-use Rattle.std.proofs.Common.{◌≡◌, ℕ, ◌<◌, ◌≤◌, ◌^◌, ◌&&◌, Bool, true, false, List, [], ◌∷◌, length, Option, Some, None, refl, ap, ◌∙◌, ◌⊎◌, inl, inr, arith, if◌then◌else◌, le-leb}
+use Rattle.std.proofs.Common.{◌≡◌, ℕ, ◌<◌, ◌≤◌, ◌^◌, ◌&&◌, Bool, true, false, List, [], ◌∷◌, length, Option, Some, None, refl, sym, subst, append-nil, ap, ◌∙◌, ◌⊎◌, inl, inr, arith, if◌then◌else◌, le-leb}
 use Rattle.std.specs.Prelude.{nat_lt, nat_le, not}
 use Rattle.ep_base.specs.declared.air.CardKind.{CardKind}
 use Rattle.ep_base.specs.declared.air.CardKind.TheVariants as kinds
 use Rattle.ep_base.specs.Hearing.{Silence, Noise, Frame, same_wave, wave_of_kind}
 use Rattle.ep_base.specs.Frame.{HasCheck, is_good, is_bare, hits, after_burst, sealed, opened, without_check}
 use Rattle.ep_base.specs.Air.{Leg, Passes, Loses, Bursts, Leaves, IsLeg, Passage, ArePassages, next_fate, fates_after}
-use Rattle.ep_base.specs.Block.{Block, Heard, Bad, Intact, frame_length}
+use Rattle.ep_base.specs.Block.{Block, Deselect, Heard, Bad, Intact, frame_length}
 use Rattle.ep_base.specs.Link.{comes_up}
 use Rattle.ep_base.specs.CardEnd.{is_halted}
 use Rattle.ep_base.specs.Spelling.{Read, spelled, is_block}
 use Rattle.ep_base.specs.LinkFrames.{heard_block, heard_opened, intact}
-use Rattle.ep_base.specs.Wire.{comes_down, comes_back, burst_down, burst_up, Party, Heeded, unmoved, maybe_frame, takes_block, takes_read, takes_opened, takes_frame, takes_down, aired, Wire, wire_heeds}
+use Rattle.ep_base.specs.Wire.{comes_down, comes_back, burst_down, burst_up, Party, Heeded, unmoved, maybe_frame, takes_block, takes_read, takes_opened, takes_frame, takes_down, aired, Wire, wire_heeds, moved}
 use Rattle.rf_frame.proofs.Opening.{ends_sealed, after_burst-missed}
 use Rattle.rf_frame.proofs.BurstLaw.{burst_law}
-use Rattle.law_wire.specs.Whole.{TakenWhole, HeardWhole, NothingIsBad}
+use Rattle.law_wire.specs.Whole.{TakenWhole, HeardWhole, NothingIsBad, ClosesQuietly}
 use Rattle.law_wire.proofs.Reading.{Sent, sent_block, spelled_reads, opened_spelled, sealed_length}
 
 has_check : (kind : CardKind) → HasCheck (wave_of_kind kind)
@@ -53,28 +53,35 @@ module _ (kind : CardKind) (b : Block) where
   went true p = takes_block p b
   went false p = unmoved p
 
-  module _ (p : Party) (same : p.kind ≡ kind) (free : is_halted p.card ≡ false) (is : is_block b ≡ true) where
-    takes_it : (bytes : List ℕ) → takes_frame p (wave_of_kind kind) bytes ≡ takes_opened p (opened (wave_of_kind kind) bytes)
-    takes_it bytes =
-        let here : (same_wave (wave_of_kind kind) (wave_of_kind p.kind) && not (is_halted p.card)) ≡ true = rw (same, free, own_wave kind) refl in
-        ap (λ (x : Bool). if x then takes_opened p (opened (wave_of_kind kind) bytes) else unmoved p) here
+  -- a card that doesn't listen takes nothing
+  listens : (p : Party) (c d : Bool) (h : Heeded) → h ≡ went d p → (x : Bool) × ((if c then h else unmoved p) ≡ went x p)
+  listens p true d h e = (d, e)
+  listens p false d h e = (false, refl)
 
-    takes_spelled : takes_opened p (Some (spelled b)) ≡ takes_block p b
-    takes_spelled = ap (λ (r : Read). takes_read p r) (spelled_reads b is)
+  module _ (p : Party) (is : is_block b ≡ true) where
+    takes_it : (hit : Bool) → takes_opened p (if hit then None else Some (spelled b)) ≡ went (not hit) p
+    takes_it true = refl
+    takes_it false = ap (λ (r : Read). takes_read p r) (spelled_reads b is)
 
-    by_hit : (start mask : ℕ) → mask < 2 ^ 16 → (hit : Bool) → hits (wave_of_kind kind) start mask frame ≡ hit
-        → takes_frame p (wave_of_kind kind) (after_burst (wave_of_kind kind) start mask frame) ≡ went (not hit) p
-    by_hit start mask few true e = takes_it _ ∙ ap (λ (o : Option (List ℕ)). takes_opened p o) (burst_opened start mask few true e)
-    by_hit start mask few false e = takes_it _ ∙ ap (λ (o : Option (List ℕ)). takes_opened p o) (burst_opened start mask few false e) ∙ takes_spelled
+    takes_whole : (bytes : List ℕ) (hit : Bool) → opened (wave_of_kind kind) bytes ≡ (if hit then None else Some (spelled b)) → (d : Bool) × (takes_frame p (wave_of_kind kind) bytes ≡ went d p)
+    takes_whole bytes hit e =
+        listens p (same_wave (wave_of_kind kind) (wave_of_kind p.kind) && not (is_halted p.card)) (not hit) (takes_opened p (opened (wave_of_kind kind) bytes))
+        (ap (λ (o : Option (List ℕ)). takes_opened p o) e ∙ takes_it hit)
 
     leg_down : (leg : Leg) → IsLeg leg → (d : Bool) × (takes_down p (wave_of_kind kind) (comes_down leg (wave_of_kind kind) frame) ≡ went d p)
-    leg_down Passes l = (true, takes_it frame ∙ ap (λ (o : Option (List ℕ)). takes_opened p o) (opened_spelled kind b) ∙ takes_spelled)
+    leg_down Passes l = takes_whole frame false (opened_spelled kind b)
     leg_down Loses l = (false, refl)
     leg_down (Bursts start mask) l =
         let heard : burst_down start mask (wave_of_kind kind) frame ≡ Some (after_burst (wave_of_kind kind) start mask frame) =
         ap (λ (x : Bool). if x && hits (wave_of_kind kind) start mask frame then None else Some (after_burst (wave_of_kind kind) start mask frame)) (not_bare kind) in
-        (not (hits (wave_of_kind kind) start mask frame), ap (λ (o : Option (List ℕ)). takes_down p (wave_of_kind kind) o) heard ∙ by_hit start mask l (hits (wave_of_kind kind) start mask frame) refl)
+        let taken = takes_whole (after_burst (wave_of_kind kind) start mask frame) (hits (wave_of_kind kind) start mask frame) (burst_opened start mask l (hits (wave_of_kind kind) start mask frame) refl) in
+        (taken.0, ap (λ (o : Option (List ℕ)). takes_down p (wave_of_kind kind) o) heard ∙ taken.1)
     leg_down Leaves l = (false, refl)
+
+    -- and so where no frame comes down
+    comes_or_not : (c : Bool) (o : Option (List ℕ)) → (d : Bool) × (takes_down p (wave_of_kind kind) o ≡ went d p) → (d : Bool) × (takes_down p (wave_of_kind kind) (if c then o else None) ≡ went d p)
+    comes_or_not true o t = t
+    comes_or_not false o t = (false, refl)
 
   -- ---- up
 
@@ -112,23 +119,11 @@ next_legs [] a = (tt, tt, tt)
 next_legs (f ∷ fates) a = a
 
 -- the card takes the block that was sent, or nothing
-pub down_law : (kind : CardKind) (w : Wire) (b : Block) → w.party.kind ≡ kind → is_halted w.party.card ≡ false → is_block b ≡ true → ArePassages w.air.fates → length w.log < w.room
+pub down_law : (kind : CardKind) (w : Wire) (b : Block) → is_block b ≡ true → ArePassages w.air.fates
     → (d : Bool) × (wire_heeds w (wave_of_kind kind) (sealed (wave_of_kind kind) (spelled b)) ≡ went kind b d w.party)
-down_law kind w b same unhalted is fates room = by_gone w.air.gone refl
-  where
-    free : nat_lt (length w.log) w.room ≡ true
-    free = le-leb _ _ room
-
-    by_gone : (gone : Bool) → w.air.gone ≡ gone → (d : Bool) × (wire_heeds w (wave_of_kind kind) (sealed (wave_of_kind kind) (spelled b)) ≡ went kind b d w.party)
-    by_gone true e =
-        (false, ap (λ (x : Bool). takes_down w.party (wave_of_kind kind) (if not x && nat_lt (length w.log) w.room then comes_down (next_fate w.air.fates).down (wave_of_kind kind) (sealed (wave_of_kind kind) (spelled b)) else None)) e)
-    by_gone false e =
-        let l = leg_down kind b w.party same unhalted is (next_fate w.air.fates).down (next_legs w.air.fates fates).0 in (
-          l.0,
-          ap (λ (x : Bool). takes_down w.party (wave_of_kind kind) (if not x && nat_lt (length w.log) w.room then comes_down (next_fate w.air.fates).down (wave_of_kind kind) (sealed (wave_of_kind kind) (spelled b)) else None)) e
-              ∙ ap (λ (x : Bool). takes_down w.party (wave_of_kind kind) (if x then comes_down (next_fate w.air.fates).down (wave_of_kind kind) (sealed (wave_of_kind kind) (spelled b)) else None)) free
-              ∙ l.1,
-        )
+down_law kind w b is fates =
+    comes_or_not kind b w.party is (not w.air.gone && nat_lt (length w.log) w.room) (comes_down (next_fate w.air.fates).down (wave_of_kind kind) (sealed (wave_of_kind kind) (spelled b)))
+    (leg_down kind b w.party is (next_fate w.air.fates).down (next_legs w.air.fates fates).0)
 
 -- a block that the reader may hear, if any: one that the card sends, in a frame that the reader takes
 abbrev pub MaySend : ℕ → Option Block → Type 0
@@ -154,8 +149,8 @@ by_went kind b p h true e = inl e
 by_went kind b p h false e = inr e
 
 pub taken_whole : TakenWhole
-taken_whole kind w b same unhalted is fates room =
-    let x = down_law kind w b same unhalted is fates room in
+taken_whole kind w b is fates =
+    let x = down_law kind w b is fates in
     by_went kind b w.party (wire_heeds w (wave_of_kind kind) (sealed (wave_of_kind kind) (spelled b))) x.0 x.1
 
 by_up : (b : Block) (h : Heard) (up : Bool) → h ≡ comes_up up (Some b) → (h ≡ Intact b) ⊎ (h ≡ Bad)
@@ -169,3 +164,18 @@ heard_or_bad kind fsd b leg is fits l =
 
 pub nothing_is_bad : NothingIsBad
 nothing_is_bad = silent
+
+-- after S(DESELECT)
+closed : Wire → Heeded → Type 0
+closed w h = ((moved w h).log ≡ w.log) × ((moved w h).party.image ≡ w.party.image)
+
+by_closed : (kind : CardKind) (w : Wire) (d : Bool) → closed w (went kind Deselect d w.party)
+unfolding closed
+by_closed kind w true = (append-nil w.log, refl)
+by_closed kind w false = (append-nil w.log, refl)
+
+pub closes_quietly : ClosesQuietly
+unfolding closed
+closes_quietly kind w fates =
+    let x = down_law kind w Deselect refl fates in
+    subst (λ (h : Heeded). closed w h) (sym x.1) (by_closed kind w x.0)

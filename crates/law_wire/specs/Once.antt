@@ -1,4 +1,4 @@
--- What is recorded of a command that a wire carries.
+-- What is recorded of a command that a wire carries (this project's own).
 use Rattle.std.specs.Prelude.{◌≡◌, ℕ, ◌+◌, ◌≤◌, true, List, length}
 use Rattle.ep_base.specs.Apdu.{is_command}
 use Rattle.ep_base.specs.Hearing.{Hearing}

@@ -1,23 +1,22 @@
--- Over a wire a block comes as it was sent, or not at all.
-use Rattle.std.specs.Prelude.{◌≡◌, ◌⊎◌, ℕ, ◌≤◌, ◌<◌, true, false, length}
+-- Over a wire a block comes as it was sent, or not at all (this project's own).
+use Rattle.std.specs.Prelude.{◌≡◌, ◌⊎◌, ℕ, ◌≤◌, true}
 use Rattle.ep_base.specs.declared.air.CardKind.{CardKind}
 use Rattle.ep_base.specs.Hearing.{Silence, Frame, wave_of_kind}
 use Rattle.ep_base.specs.Frame.{sealed}
 use Rattle.ep_base.specs.Air.{Leg, IsLeg, ArePassages}
-use Rattle.ep_base.specs.Block.{Block, Bad, Intact, frame_length}
-use Rattle.ep_base.specs.CardEnd.{is_halted}
+use Rattle.ep_base.specs.Block.{Block, Deselect, Bad, Intact, frame_length}
 use Rattle.ep_base.specs.Spelling.{spelled, is_block, Reads, read_block}
 use Rattle.ep_base.specs.LinkFrames.{heard_block}
-use Rattle.ep_base.specs.Wire.{comes_back, takes_block, unmoved, Wire, wire_heeds}
+use Rattle.ep_base.specs.Wire.{comes_back, takes_block, unmoved, Wire, wire_heeds, wire_send}
 
 -- Bytes are read as the block that they spell (ISO/IEC 14443-4).
 abbrev pub ReadAsSpelled : Type 0
 ReadAsSpelled = (b : Block) → is_block b ≡ true → read_block (spelled b) ≡ Reads b
 
--- A block goes down in a frame of the card's wave: the card takes that block, or nothing (this project's own).
+-- A block goes down in a frame: the card takes that block, or nothing (this project's own).
 abbrev pub TakenWhole : Type 0
 TakenWhole = (kind : CardKind) (w : Wire) (b : Block) →
-    w.party.kind ≡ kind → is_halted w.party.card ≡ false → is_block b ≡ true → ArePassages w.air.fates → length w.log < w.room →
+    is_block b ≡ true → ArePassages w.air.fates →
     (wire_heeds w (wave_of_kind kind) (sealed (wave_of_kind kind) (spelled b)) ≡ takes_block w.party b)
     ⊎ (wire_heeds w (wave_of_kind kind) (sealed (wave_of_kind kind) (spelled b)) ≡ unmoved w.party)
 
@@ -31,3 +30,9 @@ HeardWhole = (kind : CardKind) (fsd : ℕ) (b : Block) (leg : Leg) →
 -- Where no card answers, the hearing is bad (this project's own).
 abbrev pub NothingIsBad : Type 0
 NothingIsBad = (kind : CardKind) (fsd : ℕ) (leg : Leg) → heard_block kind fsd (comes_back leg Silence) ≡ Bad
+
+-- Whatever becomes of S(DESELECT), the card executes nothing then (this project's own).
+abbrev pub ClosesQuietly : Type 0
+ClosesQuietly = (kind : CardKind) (w : Wire) → ArePassages w.air.fates →
+    ((wire_send w (wave_of_kind kind) (sealed (wave_of_kind kind) (spelled Deselect))).1.log ≡ w.log)
+    × ((wire_send w (wave_of_kind kind) (sealed (wave_of_kind kind) (spelled Deselect))).1.party.image ≡ w.party.image)

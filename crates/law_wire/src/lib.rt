@@ -5,8 +5,11 @@
 #![tactic(auto)]
 
 ghost use Rattle.ep_base.specs.Carry.{CarriedOnce};
+ghost use Rattle.law_wire.specs.Alike.{CarriedAlike};
 ghost use Rattle.law_wire.specs.Once.{RecordedOnce};
-ghost use Rattle.law_wire.specs.Whole.{HeardWhole, NothingIsBad, ReadAsSpelled, TakenWhole};
+ghost use Rattle.law_wire.specs.Whole.{ClosesQuietly, HeardWhole, NothingIsBad, ReadAsSpelled, TakenWhole};
+
+use rf_frame::Medium;
 
 /// The bytes of a block are read as that block.
 pub fn blocks_are_read()
@@ -23,6 +26,11 @@ pub fn blocks_come_whole()
     ensures nothing { NothingIsBad }
 {}
 
+/// Whatever becomes of the S(DESELECT) that closes a link, nothing is executed.
+pub fn closes_quietly()
+    ensures { ClosesQuietly }
+{}
+
 /// Whatever becomes of the frames of an open link, a command is answered with its card's response and was executed
 /// once; or three hearings were bad since the reader's last toggle, and it was executed at most once. At every moment
 /// before its end it was executed at most once. No block is ever outside the rules.
@@ -31,6 +39,11 @@ pub fn blocks_come_whole()
 /// and the reader's at most 256, the log has two free records, and the link is between two commands.
 pub fn carried_once()
     ensures { CarriedOnce }
+{}
+
+/// The same over any medium that carries the link's blocks as a wire does, which its good states show, and stays good.
+pub fn carried_alike<M: Medium>()
+    ensures { CarriedAlike M.steps }
 {}
 
 /// The same in numbers: a command adds one record to the log at most, and just one where it is answered.

@@ -6,8 +6,8 @@ use Rattle.link.specs.declared.transport.Presented.{Presented}
 use Rattle.link.specs.declared.transport.PresentEnd.{PresentEnd}
 use Rattle.link.specs.declared.transport.PresentEnd.TheVariants.{NoCard}
 use Rattle.link.specs.declared.transport.PresentEnd.TheVariants as present
-use Rattle.link.specs.declared.ends.LinkEnd.{LinkEnd}
-use Rattle.link.specs.declared.ends.LinkEnd.TheVariants as ending
+use Rattle.block_reader.specs.declared.ends.LinkEnd.{LinkEnd}
+use Rattle.block_reader.specs.declared.ends.LinkEnd.TheVariants as ending
 
 abbrev pub presentation_of : Result Presented PresentEnd → Presentation
 presentation_of (Ok p) = Here p.collision p.card

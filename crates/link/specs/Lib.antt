@@ -1,3 +1,3 @@
 pub mod Answers
+pub mod Carried
 pub mod Direct
-pub mod Ends

@@ -1,12 +1,13 @@
 //! Transports: how a card is presented, answers commands, and is let go.
 #![tactic(auto)]
 
+mod carrying;
 mod direct;
-mod ends;
 mod transport;
 
+pub use block_reader::{Breach, LinkEnd, Phase};
+pub use carrying::carry;
 pub use direct::Direct;
-pub use ends::{Breach, LinkEnd, Phase};
 pub use transport::{PresentEnd, Presented, Transport};
 
 #[cfg(test)]

@@ -1,4 +1,4 @@
--- What the answers of polling mean, in plain data.
+-- What the answers of polling mean, in plain data (this project's own).
 use Rattle.std.specs.Prelude.{◌≡◌, true, List, length, map, Option, Some, None, Result, Ok, Err, is_none}
 use Rattle.std.specs.List.{list_all}
 use Rattle.ep_base.specs.Hearing as air

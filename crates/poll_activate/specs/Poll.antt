@@ -1,4 +1,4 @@
--- A reader in a poll round.
+-- A reader in a poll round (this project's own).
 use Rattle.std.specs.Prelude.{◌≡◌, ℕ, List, [], Option, Some, None}
 use Rattle.ep_base.specs.declared.air.Wave.TheVariants.{B}
 use Rattle.ep_base.specs.Hearing.{Asked, asks, Hearing, Turn, Ends, Broken, place_of}
@@ -14,6 +14,7 @@ abbrev pub asked_in : ℕ → Option Stage → Asked
 asked_in fsdi (Some stage) = round_asks fsdi stage
 asked_in fsdi None = asks B []
 
+-- The next frame of a poll (this project's own).
 abbrev pub asked : PollState → Asked
 asked p = asked_in p.fsdi p.stage
 
@@ -26,6 +27,7 @@ abbrev pub turn_in : Option Stage → Hearing → Turn Stage
 turn_in (Some stage) heard = round_hears stage heard
 turn_in None heard = Ends Broken
 
+-- What follows a hearing in a poll (this project's own).
 abbrev pub turn : PollState → Hearing → Turn Stage
 turn p heard = turn_in p.stage heard
 

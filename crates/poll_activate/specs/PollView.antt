@@ -1,4 +1,4 @@
--- What a poll's fields mean.
+-- What a poll's fields mean (this project's own).
 use Rattle.std.specs.Prelude.{◌≡◌, ℕ, ◌<◌, Option, Some, None, option_map}
 use Rattle.ep_base.specs.Round as rule
 use Rattle.type_b.specs.Reader.{stage_at}
@@ -16,6 +16,7 @@ stage_by (steps.InA reader) = option_map rule.InA reader.stage
 stage_by (steps.InB reader) = option_map rule.InB (stage_at reader.place)
 stage_by steps.Over = None
 
+-- The state of a poll from its fields (this project's own).
 abbrev pub poll_state : Inside → PollState
 poll_state p = record { fsdi = p.fsdi; stage = stage_by p.step }
 
@@ -28,5 +29,6 @@ StepFits fsdi (steps.InA reader) = reader.fsdi ≡ fsdi
 StepFits fsdi (steps.InB reader) = reader.fsdi ≡ fsdi
 StepFits fsdi steps.Over = Unit {0}
 
+-- Its FSDI is within its bounds, and the reader of one type has the same (this project's own).
 abbrev pub PollFits : Inside → Type 0
 PollFits p = (p.fsdi < 16) × StepFits p.fsdi p.step

@@ -105,65 +105,59 @@ fn found(kind: CardKind, id: &[u8]) -> Result<Activated, Fail> {
     })
 }
 
+/// A medium with these cards.
+fn with_cards(a: Option<ACard>, b: Option<BCard>) -> Cards {
+    Cards { a, b, exchanges: 0 }
+}
+
 #[test]
-fn rounds_with_one_card(rt: HostRuntime) -> Result<(), Fail> {
+fn rounds_with_one_card_of_type_a(rt: HostRuntime) -> Result<(), Fail> {
     let uids = [
         (b"\x01\x02\x03\x04".as_slice(), 7),
         (b"\x04\x11\x22\x33\x44\x55\x66".as_slice(), 9),
         (b"\x04\x11\x22\x33\x44\x55\x66\x77\x88\x99".as_slice(), 11),
     ];
     for (uid, exchanges) in uids {
-        let mut medium = Cards {
-            a: Some(card_a(uid)?),
-            b: None,
-            exchanges: 0,
-        };
-        assert_eq!(rt;
-            round(&mut medium, 8),
-            Ok(RoundEnd::Card(found(CardKind::A, uid)?))
-        );
+        let mut medium = with_cards(Some(card_a(uid)?), None);
+        let card = found(CardKind::A, uid)?;
+        assert_eq!(rt; round(&mut medium, 8), Ok(RoundEnd::Card(card)));
         assert_eq!(rt; medium.exchanges, exchanges, "{uid:?}");
     }
-    let mut medium = Cards {
-        a: None,
-        b: Some(card_b(true)),
-        exchanges: 0,
-    };
+    Ok(())
+}
+
+#[test]
+fn rounds_with_one_card_of_type_b(rt: HostRuntime) -> Result<(), Fail> {
+    let mut medium = with_cards(None, Some(card_b(true)));
     let card = found(CardKind::B, b"\x11\x22\x33\x44")?;
     assert_eq!(rt; round(&mut medium, 8), Ok(RoundEnd::Card(card)));
     assert_eq!(rt; medium.exchanges, 3);
-    let mut medium = Cards {
-        a: None,
-        b: Some(card_b(false)),
-        exchanges: 0,
-    };
+    let mut medium = with_cards(None, Some(card_b(false)));
     assert_eq!(rt; round(&mut medium, 8), Ok(RoundEnd::Unsupported));
     assert_eq!(rt; medium.exchanges, 2);
     Ok(())
 }
 
 #[test]
-fn polls_without_a_card(rt: HostRuntime) -> Result<(), Fail> {
-    let mut nobody = Cards {
-        a: None,
-        b: None,
-        exchanges: 0,
-    };
+fn polls_nobody(rt: HostRuntime) -> Result<(), Fail> {
+    let mut medium = with_cards(None, None);
     let mut rounds = Rounds::new();
-    assert_eq!(rt; poll(&mut nobody, 8, &mut rounds), Err(PollEnd::NoCard));
-    assert_eq!(rt; nobody.exchanges, 128);
+    assert_eq!(rt; poll(&mut medium, 8, &mut rounds), Err(PollEnd::NoCard));
+    assert_eq!(rt; medium.exchanges, 128);
     assert_eq!(rt; rounds.len(), 64);
     for end in rounds.as_slice() {
         assert_eq!(rt; *end, RoundEnd::Empty);
     }
-    let mut both = Cards {
-        a: Some(card_a(b"\x01\x02\x03\x04")?),
-        b: Some(card_b(true)),
-        exchanges: 0,
-    };
+    Ok(())
+}
+
+#[test]
+fn polls_cards_of_both_types(rt: HostRuntime) -> Result<(), Fail> {
+    let card = card_a(b"\x01\x02\x03\x04")?;
+    let mut medium = with_cards(Some(card), Some(card_b(true)));
     let mut rounds = Rounds::new();
-    assert_eq!(rt; poll(&mut both, 8, &mut rounds), Err(PollEnd::NoCard));
-    assert_eq!(rt; both.exchanges, 192);
+    assert_eq!(rt; poll(&mut medium, 8, &mut rounds), Err(PollEnd::NoCard));
+    assert_eq!(rt; medium.exchanges, 192);
     assert_eq!(rt; rounds.len(), 64);
     for end in rounds.as_slice() {
         assert_eq!(rt; *end, RoundEnd::Collision);
@@ -211,31 +205,37 @@ impl Medium for Late {
     }
 }
 
-#[test]
-fn polls_until_a_card_or_a_fault(rt: HostRuntime) -> Result<(), Fail> {
-    let card = found(CardKind::B, b"\x11\x22\x33\x44")?;
-    let mut late = Late {
+/// Such a medium, silent for so many frames, and failing from this one on.
+fn comes_late(silent: u32, fails: u32) -> Late {
+    Late {
         calls: 0,
-        fails: 100,
-        silent: 4,
+        fails,
+        silent,
         card: card_b(true),
         faults: 0,
-    };
+    }
+}
+
+#[test]
+fn polls_until_a_card(rt: HostRuntime) -> Result<(), Fail> {
+    let card = found(CardKind::B, b"\x11\x22\x33\x44")?;
     let mut rounds = Rounds::new();
-    assert_eq!(rt; poll(&mut late, 8, &mut rounds), Ok(card.copy()));
+    assert_eq!(rt;
+        poll(&mut comes_late(4, 100), 8, &mut rounds),
+        Ok(card.copy())
+    );
     let ends = [RoundEnd::Empty, RoundEnd::Empty, RoundEnd::Card(card)];
     assert_eq!(rt; rounds.as_slice(), ends.as_slice());
-    let mut late = Late {
-        calls: 0,
-        fails: 6,
-        silent: 100,
-        card: card_b(true),
-        faults: 0,
-    };
+    Ok(())
+}
+
+#[test]
+fn polls_until_a_fault(rt: HostRuntime) -> Result<(), Fail> {
+    let mut medium = comes_late(100, 6);
     let mut rounds = Rounds::new();
-    assert_eq!(rt; poll(&mut late, 8, &mut rounds), Err(PollEnd::Device));
+    assert_eq!(rt; poll(&mut medium, 8, &mut rounds), Err(PollEnd::Device));
     assert_eq!(rt; rounds.len(), 2);
-    assert_eq!(rt; late.faults, 1);
+    assert_eq!(rt; medium.faults, 1);
     Ok(())
 }
 
@@ -259,11 +259,7 @@ fn sends(poll: &mut Poll, medium: &mut Cards, reset: bool, wanted: &[u8]) -> Res
 
 #[test]
 fn frames_as_sent(rt: HostRuntime) -> Result<(), Fail> {
-    let mut medium = Cards {
-        a: Some(card_a(b"\x01\x02\x03\x04")?),
-        b: None,
-        exchanges: 0,
-    };
+    let mut medium = with_cards(Some(card_a(b"\x01\x02\x03\x04")?), None);
     let mut poll = Poll::open(8);
     sends(&mut poll, &mut medium, true, b"\x52")?;
     sends(&mut poll, &mut medium, false, b"\x50\x00\x57\xcd")?;

@@ -1,4 +1,4 @@
--- A card of Type A outside the block protocol.
+-- A card of Type A outside the block protocol (this project's own).
 use Rattle.ep_base.specs.TypeA.{APlan, AState}
 
 -- What it is made of, and where it stands.

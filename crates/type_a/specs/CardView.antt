@@ -1,5 +1,5 @@
--- What a card's fields mean.
-use Rattle.std.specs.Prelude.{◌≡◌, ℕ, ◌≤◌}
+-- What a card's fields mean (this project's own).
+use Rattle.std.specs.Prelude.{◌≤◌}
 use Rattle.ep_base.specs.TypeA.{APlan, levels}
 use Rattle.ep_base.specs.TypeA as rule
 use Rattle.type_a.specs.Card.{CardState}
@@ -16,6 +16,7 @@ state_of places.Active = rule.Active
 state_of places.Protocol = rule.Protocol
 state_of places.Halted = rule.Halted
 
+-- The state of a card from its fields (this project's own).
 abbrev pub card_state : Inside → CardState
 card_state c = record { plan = c.plan; state = state_of c.place }
 
@@ -27,5 +28,6 @@ LevelFits plan places.Active = Unit {0}
 LevelFits plan places.Protocol = Unit {0}
 LevelFits plan places.Halted = Unit {0}
 
+-- Its plan is within the bounds, and so is the level at which it stands (this project's own).
 abbrev pub CardFits : Inside → Type 0
 CardFits c = PlanFits c.plan × LevelFits c.plan c.place

@@ -1,4 +1,4 @@
--- Which plans of a card there are.
+-- Which plans of a card there are (this project's own).
 use Rattle.std.specs.Prelude.{◌≡◌, ◌≤◌, ◌<◌, ◌⊎◌, length}
 use Rattle.ep_base.specs.TypeA.{APlan}
 

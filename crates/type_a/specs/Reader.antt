@@ -1,5 +1,5 @@
--- A reader in a round with a card of Type A.
-use Rattle.std.specs.Prelude.{ℕ, List, [], ◌∷◌, Option, Some, None, ◌≡◌}
+-- A reader in a round with a card of Type A (this project's own).
+use Rattle.std.specs.Prelude.{ℕ, List, [], Option, Some, None}
 use Rattle.ep_base.specs.declared.air.Wave.TheVariants.{AShort}
 use Rattle.ep_base.specs.Hearing.{Asked, asks, Hearing, Turn, Ends, Broken}
 use Rattle.ep_base.specs.TypeA.{AStage, Woken, Level, Select, Complete, a_asks, a_says, a_hears}
@@ -14,6 +14,7 @@ abbrev pub asked_in : ℕ → Option AStage → Asked
 asked_in fsdi (Some stage) = a_asks fsdi stage
 asked_in fsdi None = asks AShort []
 
+-- The next frame of a reader (this project's own).
 abbrev pub asked : ReaderState → Asked
 asked r = asked_in r.fsdi r.stage
 
@@ -27,6 +28,7 @@ abbrev pub turn_in : Option AStage → Hearing → Turn AStage
 turn_in (Some stage) heard = a_hears stage heard
 turn_in None heard = Ends Broken
 
+-- What follows a hearing (this project's own).
 abbrev pub turn : ReaderState → Hearing → Turn AStage
 turn r heard = turn_in r.stage heard
 

@@ -1,4 +1,4 @@
--- What a reader's fields mean.
+-- What a reader's fields mean (this project's own).
 use Rattle.std.specs.Prelude.{◌≡◌, ℕ, ◌+◌, ◌*◌, ◌≤◌, ◌<◌, List, length, Option, Some, None}
 use Rattle.ep_base.specs.TypeA.{AStage, Woken, Level, Select, Complete}
 use Rattle.type_a.specs.Reader.{ReaderState}
@@ -14,6 +14,7 @@ stage_by steps.Select level uid part = Some (Select level uid part)
 stage_by steps.Complete level uid part = Some (Complete uid)
 stage_by steps.Over level uid part = None
 
+-- The state of a reader from its fields (this project's own).
 abbrev pub reader_state : Inside → ReaderState
 reader_state r = record { fsdi = r.fsdi; stage = stage_by r.step r.level r.uid.items r.part }
 
@@ -25,5 +26,6 @@ StepFits steps.Select level uid = (1 ≤ level) × (level ≤ 3) × (length uid 
 StepFits steps.Complete level uid = Unit {0}
 StepFits steps.Over level uid = Unit {0}
 
+-- Its FSDI and what it has of the UID are within their bounds (this project's own).
 abbrev pub ReaderFits : Inside → Type 0
 ReaderFits r = (r.fsdi < 16) × StepFits r.step r.level r.uid.items

@@ -1,4 +1,4 @@
--- A card of Type B outside the block protocol.
+-- A card of Type B outside the block protocol (this project's own).
 use Rattle.std.specs.Prelude.{◌<◌}
 use Rattle.ep_base.specs.TypeB.{BState}
 use Rattle.ep_base.specs.TypeB as rule
@@ -9,6 +9,7 @@ pub record CardState : Type 0 where
   pub plan : rule.BPlan
   pub state : BState
 
+-- A plan in plain data (this project's own).
 abbrev pub plan_of : BPlan → rule.BPlan
 plan_of p = record { pupi = p.pupi; app_data = p.app_data; fsci = p.fsci; fwi = p.fwi; iso4 = p.iso4 }
 

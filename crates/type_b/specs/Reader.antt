@@ -1,4 +1,4 @@
--- A reader in a round with a card of Type B.
+-- A reader in a round with a card of Type B (this project's own).
 use Rattle.std.specs.Prelude.{ℕ, [], Option, Some, None}
 use Rattle.ep_base.specs.declared.air.Wave.TheVariants.{B}
 use Rattle.ep_base.specs.Hearing.{Asked, asks, Hearing, Turn, Ends, Broken}
@@ -27,6 +27,7 @@ stage_at New = None
 stage_at (At stage) = Some stage
 stage_at Over = None
 
+-- Where a reader stands in a round, by its stage (this project's own).
 abbrev pub place_at : Option BStage → Place
 place_at (Some stage) = At stage
 place_at None = Over
@@ -37,6 +38,7 @@ asked_in fsdi New = asks B []
 asked_in fsdi (At stage) = b_asks fsdi stage
 asked_in fsdi Over = asks B []
 
+-- The next frame of a reader (this project's own).
 abbrev pub asked : ReaderState → Asked
 asked r = asked_in r.fsdi r.place
 
@@ -46,5 +48,6 @@ turn_in New heard = Ends Broken
 turn_in (At stage) heard = b_hears stage heard
 turn_in Over heard = Ends Broken
 
+-- What follows a hearing (this project's own).
 abbrev pub turn : ReaderState → Hearing → Turn BStage
 turn r heard = turn_in r.place heard

@@ -1,4 +1,4 @@
--- What a reader's fields mean.
+-- What a reader's fields mean (this project's own).
 use Rattle.std.specs.Prelude.{ℕ, ◌<◌, List}
 use Rattle.type_b.specs.Reader.{ReaderState, Place, New, At, Over}
 use Rattle.type_b.specs.declared.reader.BReader.TheInside.{Inside}
@@ -11,8 +11,10 @@ place_by steps.Woken pupi fsc fwi = New
 place_by steps.Attrib pupi fsc fwi = At (record { pupi = pupi; fsc = fsc; fwi = fwi })
 place_by steps.Over pupi fsc fwi = Over
 
+-- The state of a reader from its fields (this project's own).
 abbrev pub reader_state : Inside → ReaderState
 reader_state r = record { fsdi = r.fsdi; place = place_by r.step r.pupi r.fsc r.fwi }
 
+-- Its FSDI is within its bounds (this project's own).
 abbrev pub ReaderFits : Inside → Type 0
 ReaderFits r = r.fsdi < 16

@@ -1,16 +1,9 @@
-//! How a link fails.
+//! What a reader's end says and keeps, and how a link fails.
 
-use ep_base::FrameBuf;
+use apdu::Response;
+use ep_base::{FrameBuf, Phase};
+use rf_frame::{Ask, Heard};
 use std::marker::Model;
-
-/// What a reader's end of a link does.
-#[derive(Clone, Copy, Debug, PartialEq, Eq)]
-pub enum Phase {
-    /// It sends a command, and no part of the response has come.
-    Sending,
-    /// A part of the response has come.
-    Receiving,
-}
 
 /// A block outside the rules.
 #[derive(Debug, PartialEq, Eq, Drop)]
@@ -26,7 +19,7 @@ pub struct Breach {
 }
 
 impl Model for Breach {
-    ghost use Rattle.link.specs.Ends.{BreachData};
+    ghost use Rattle.ep_base.specs.LinkFrames.{BreachData};
 
     ghost Value = { BreachData };
 
@@ -47,4 +40,33 @@ pub enum LinkEnd {
     Breach(Breach),
     /// The device failed.
     Device,
+}
+
+/// What follows a hearing.
+#[derive(Drop)]
+pub enum Next {
+    /// The next frame is to be sent.
+    Ask(Ask),
+    /// The command has its response.
+    Done(Response),
+    /// The link has failed.
+    Failed(LinkEnd),
+}
+
+/// An exchange as a reader's end keeps it.
+#[derive(Debug, Default, Drop)]
+pub struct Kept {
+    /// All bytes of the frame that was sent.
+    pub sent: FrameBuf,
+    /// What was heard.
+    pub heard: Heard,
+}
+
+impl Model for Kept {
+    ghost use Rattle.ep_base.specs.LinkFrames.{Kept};
+    ghost use Rattle.rf_frame.specs.Meaning.{heard_of};
+
+    ghost Value = { Kept };
+
+    ghost view = { λ k. record { sent = k.sent.items; heard = heard_of k.heard } };
 }

@@ -1,0 +1,4 @@
+pub mod Counts
+pub mod Progress
+pub mod Said
+pub mod Stands

@@ -1,0 +1,96 @@
+//! The blocks that a reader's end sends.
+ghost use Rattle.std.specs.Prelude.{◌≡◌, ◌≤◌, true, []};
+ghost use Rattle.arrayvec.specs.ArrayVec.{array_vec_len};
+ghost use Rattle.ep_base.specs.Apdu.{is_command};
+ghost use Rattle.ep_base.specs.LinkFrames.{block_ask, wait_of};
+ghost use Rattle.ep_base.specs.ReaderEnd as rules;
+ghost use Rattle.block_pcb.specs.Meaning.{block_of, InRange};
+ghost use Rattle.block_reader.specs.Counts.{is_open, spare};
+ghost use Rattle.block_reader.specs.Progress.{block_due, course, IsAt, Keeps, Sends};
+
+use crate::hearing::wave_of;
+use crate::progress::Progress;
+use crate::stages::{Question, Stage};
+use apdu::{Command, Response};
+use arrayvec::ArrayVec;
+use block_pcb::{Block, encode};
+use ep_base::{CardKind, FrameBuf};
+use rf_frame::{Ask, seal};
+
+/// The waiting number of a block (ISO/IEC 14443-4).
+fn waiting(fwi: u8, block: &Block<'_>) -> u32
+    requires fwi { fwi ≤ 14 }
+    requires range { InRange block.now }
+    ensures { result ≡ wait_of fwi (block_of block.now) }
+{
+    let wait = 1u32 << fwi;
+    match *block {
+        Block::Wtx { wtxm, .. } => (wait * u32::from(wtxm)).min(16384),
+        _ => wait,
+    }
+}
+
+/// Asks with a block, in a frame of the card's kind.
+pub(crate) fn ask_block(kind: CardKind, fwi: u8, block: &Block<'_>) -> Ask
+    requires fwi { fwi ≤ 14 }
+    requires range { InRange block.now }
+    ensures { result ≡ block_ask kind fwi (block_of block.now) }
+{
+    let wave = wave_of(kind);
+    let mut frame = FrameBuf::new();
+    encode(block, &mut frame);
+    seal(wave, &mut frame);
+    Ask {
+        reset: false,
+        wave,
+        frame,
+        wait: waiting(fwi, block),
+    }
+}
+
+impl Progress {
+    /// The block that is due.
+    pub(crate) fn block(&self) -> Block<'_>
+        ensures block { block_of result ≡ block_due (course self.now) }
+        ensures range { InRange result }
+    {
+        let number = u8::from(self.number);
+        match self.question {
+            Question::Part => {
+                let size = usize::from(self.card_frame) - 3;
+                let left = self.command.len() - self.place;
+                let part = if left > size { size } else { left };
+                Block::I {
+                    number,
+                    chained: left > size,
+                    inf: &self.command.as_slice()[self.place..self.place + part],
+                }
+            }
+            Question::Ack => Block::RAck { number },
+            Question::Nak => Block::RNak { number },
+            Question::Waiting(wtxm) => Block::Wtx { power: 0, wtxm },
+        }
+    }
+
+    /// Begins a command.
+    pub(crate) fn begin(&mut self, command: &Command)
+        ensures by_rules { (r : rules.Reader) → IsAt (course self.old) r → r.since ≡ [] →
+            Sends (course self.new) (rules.begin self.old.card_frame command.now r) }
+        ensures legal { is_command command.now ≡ true }
+        ensures counts { (is_open self.new.stage ≡ true) × (spare self.new.question ≡ 0) × (self.new.bad ≡ self.old.bad) × (self.new.wtx ≡ self.old.wtx) }
+        ensures kept { Keeps self.old self.new }
+    {
+        self.command = ArrayVec::try_from(command.bytes()).unwrap();
+        self.place = 0;
+        self.got.clear();
+        self.stage = Stage::Sending;
+        self.question = Question::Part;
+    }
+    /// The response, where it is whole.
+    pub(crate) fn response(&self) -> Response
+        requires { 2 ≤ array_vec_len self.now.got }
+        ensures { result ≡ (course self.now).got }
+    {
+        Response::of(self.got.as_slice()).unwrap()
+    }
+}

@@ -1,0 +1,58 @@
+//! What a hearing says, as the rules of the block protocol see it.
+ghost use Rattle.std.specs.Prelude.{◌≡◌};
+ghost use Rattle.ep_base.specs.Hearing.{wave_of_kind};
+ghost use Rattle.ep_base.specs.LinkFrames.{heard_block};
+ghost use Rattle.rf_frame.specs.Meaning.{heard_of};
+ghost use Rattle.block_reader.specs.Said.{said_of, SaysInRange};
+
+use block_pcb::{Block, decode};
+use ep_base::{CardKind, Wave};
+use rf_frame::{Heard, open_frame};
+
+/// What a hearing says.
+#[derive(Clone, Copy)]
+pub(crate) enum Said<'b> {
+    /// Nothing that is intact.
+    Bad,
+    /// An intact frame that is no block, or too long.
+    Junk,
+    /// A block.
+    Intact(Block<'b>),
+}
+
+/// The wave of a kind's frames with check bytes (ISO/IEC 14443-3).
+pub(crate) fn wave_of(kind: CardKind) -> Wave
+    ensures { result ≡ wave_of_kind kind }
+{
+    match kind {
+        CardKind::A => Wave::A,
+        CardKind::B => Wave::B,
+    }
+}
+
+/// What a hearing says to a reader that takes frames of this size.
+pub(crate) fn read_hearing(kind: CardKind, frame: u16, heard: &Heard) -> Said<'_>
+    ensures said { said_of result ≡ heard_block kind frame (heard_of heard.now) }
+    ensures range { SaysInRange result }
+{
+    match heard {
+        Heard::Silence => Said::Bad,
+        Heard::Noise => Said::Bad,
+        Heard::Overlap => Said::Bad,
+        Heard::Frame { wave, bytes } => {
+            if *wave != wave_of(kind) {
+                return Said::Bad;
+            }
+            let Some(message) = open_frame(*wave, bytes) else {
+                return Said::Bad;
+            };
+            if bytes.len() > usize::from(frame) {
+                return Said::Junk;
+            }
+            match decode(message) {
+                Ok(block) => Said::Intact(block),
+                Err(_) => Said::Junk,
+            }
+        }
+    }
+}

@@ -1,0 +1,45 @@
+//! A purchase with other texts for parts of it, and a report with other texts for parts of it.
+
+use super::{NAME, REPORT, purchase, run};
+use std::test::Fail;
+
+/// A text with another text in place of each part. A part that stands nowhere in it is a mistake of the test.
+pub fn edited(rt: &HostRuntime, text: &str, edits: &[(&str, &str)]) -> Result<String, Fail> {
+    let mut made = String::from_str(rt.alloc(), text)?;
+    for (part, other) in edits {
+        let next = made.as_str().replace(rt.alloc(), *part, other)?;
+        if next.as_str() == made.as_str() {
+            return Err(Fail::from("no part of the text"));
+        }
+        made = next;
+    }
+    Ok(made)
+}
+
+/// The run of a document is done, and leaves this report.
+pub fn check_report(rt: &HostRuntime, document: &str, report: &str) -> Result<(), Fail> {
+    let left = run(rt, &["run"], document.as_bytes(), &[], &[])?;
+    let written = std::str::from_utf8(left.text())?;
+    if left.number == 0 && left.said.as_str() == "" && written == report {
+        return Ok(());
+    }
+    let other = format!(in rt.alloc(); "{} {} {written}", left.number, left.said.as_str())?;
+    Err(Fail::from(other))
+}
+
+/// The report of the purchase with these edits.
+pub fn check_purchase(rt: &HostRuntime, edits: &[(&str, &str)], report: &str) -> Result<(), Fail> {
+    let text = purchase(rt, NAME)?;
+    let document = edited(rt, text.as_str(), edits)?;
+    check_report(rt, document.as_str(), report)
+}
+
+/// The same, where the report is that of the purchase with edits.
+pub fn check_edited(
+    rt: &HostRuntime,
+    edits: &[(&str, &str)],
+    report: &[(&str, &str)],
+) -> Result<(), Fail> {
+    let report = edited(rt, REPORT, report)?;
+    check_purchase(rt, edits, report.as_str())
+}

@@ -1,0 +1,38 @@
+-- What the fates of frames stand for in plain data (this project's own).
+use Rattle.std.specs.Prelude.{◌≤◌, List, [], ◌∷◌, ◌++◌, replicate}
+use Rattle.ep_base.specs.Air.{Leg, Passes, Loses, Bursts, Leaves, Passage}
+use Rattle.rf_field.specs.declared.fates.Way.{Way}
+use Rattle.rf_field.specs.declared.fates.Way.TheVariants as way
+use Rattle.rf_field.specs.declared.fates.Fate.{Fate}
+use Rattle.rf_field.specs.declared.fates.FateRun.{FateRun}
+use Rattle.rf_field.specs.declared.fates.FateRun.TheVariants.{Clean, One}
+
+-- What becomes of one frame.
+abbrev pub leg_of : Way → Leg
+leg_of way.Pass = Passes
+leg_of way.Lose = Loses
+leg_of (way.Burst burst) = Bursts burst.start burst.mask
+leg_of way.Leave = Leaves
+
+-- What becomes of the frames of one exchange.
+abbrev pub passage_of : Fate → Passage
+passage_of f = record { down = leg_of f.down; up = leg_of f.up }
+
+-- All frames pass.
+abbrev pub clean_passage : Passage
+clean_passage = record { down = Passes; up = Passes }
+
+-- The exchanges of a run, one by one.
+abbrev pub run_of : FateRun → List Passage
+run_of (Clean count) = replicate count clean_passage
+run_of (One fate) = passage_of fate ∷ []
+
+-- The exchanges of all runs, one by one (this project's own).
+abbrev pub passages : List FateRun → List Passage
+passages [] = []
+passages (run ∷ runs) = run_of run ++ passages runs
+
+-- A run has at least one exchange.
+abbrev pub IsRun : FateRun → Type 0
+IsRun (Clean count) = 1 ≤ count
+IsRun (One fate) = Unit {0}

@@ -1,0 +1,67 @@
+//! A card in the block protocol.
+ghost use Rattle.std.specs.Prelude.{◌≡◌, ◌<◌, ◌≤◌, ◌++◌, length};
+ghost use Rattle.std.specs.Option.{option_copied, option_map};
+ghost use Rattle.ep_base.specs.BlockField.{fresh_card};
+ghost use Rattle.ep_base.specs.Hearing.{wave_of_kind};
+ghost use Rattle.ep_base.specs.Wire.{takes_frame};
+ghost use Rattle.rf_field.specs.Parties.{party_of, takes_awake};
+
+use block_card::{CardEnd, CardNext};
+use card_image::{CardImage, CardLog};
+use ep_base::{CardKind, FrameBuf, Wave};
+use rf_frame::{Sent, open_frame};
+
+// A card in the block protocol: its end of the link, and the image that executes its commands.
+#[derive(Drop)]
+pub(crate) struct Party {
+    end: CardEnd,
+    image: CardImage,
+}
+
+impl Party {
+    // A card that was just activated by a reader with frames of 16 to 256 bytes.
+    pub(crate) fn open(kind: CardKind, fsd: u16, image: CardImage) -> Party
+        requires least { 16 ≤ fsd }
+        requires most { fsd ≤ 256 }
+        ensures { party_of result ≡ record { kind = kind; fsd = fsd; card = fresh_card; image = image } }
+    {
+        Party {
+            end: CardEnd::open(kind, fsd),
+            image,
+        }
+    }
+
+    // The frame that the card sends after one of its own wave, which was damaged where there is no payload.
+    fn take(&mut self, payload: Option<&[u8]>, log: &mut CardLog) -> Option<FrameBuf>
+        requires { length log.old.0 < log.old.1 }
+        ensures party { party_of self.new ≡ (takes_awake (party_of self.old) (option_copied payload.entry)).party }
+        ensures logged { log.new ≡ (log.old.0 ++ (takes_awake (party_of self.old) (option_copied payload.entry)).executed, log.old.1) }
+        ensures answer { option_map (λ f. record { wave = wave_of_kind (party_of self.old).kind; bytes = f.items }) result ≡ (takes_awake (party_of self.old) (option_copied payload.entry)).answer }
+    {
+        match self.end.receive(payload) {
+            CardNext::Mute => None,
+            CardNext::Send(frame) => Some(frame),
+            CardNext::Execute(command) => {
+                let answered = self.image.answer(&command, log);
+                Some(
+                    self.end
+                        .answer(&answered.response, answered.wtx, answered.wtxm),
+                )
+            }
+        }
+    }
+
+    // Takes a frame, and gives what the card sends after it. What it executes is listed in the log.
+    pub(crate) fn hear(&mut self, wave: Wave, frame: &FrameBuf, log: &mut CardLog) -> Option<Sent>
+        requires { length log.old.0 < log.old.1 }
+        ensures party { party_of self.new ≡ (takes_frame (party_of self.old) wave frame.now.items).party }
+        ensures logged { log.new ≡ (log.old.0 ++ (takes_frame (party_of self.old) wave frame.now.items).executed, log.old.1) }
+        ensures answer { result ≡ (takes_frame (party_of self.old) wave frame.now.items).answer }
+    {
+        if wave != self.end.wave() {
+            return None;
+        }
+        let frame = self.take(open_frame(wave, frame), log)?;
+        Some(Sent { wave, frame })
+    }
+}
