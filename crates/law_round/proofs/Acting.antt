@@ -47,7 +47,7 @@ kind_itself : (a : CardKind) → same_kind a a ≡ true
 kind_itself kinds.A = refl
 kind_itself kinds.B = refl
 
-leg_is : (l : Leg) → is_leg l ≡ true → IsLeg l
+pub leg_is : (l : Leg) → is_leg l ≡ true → IsLeg l
 leg_is legs.Passes e = tt
 leg_is legs.Loses e = tt
 leg_is (Bursts start mask) e = leb-true _ _ e

@@ -21,7 +21,7 @@ use Rattle.ep_base.specs.Spelling.{Read, Reads, Refuses, read_block}
 use Rattle.ep_base.specs.Air.{next_fate}
 use Rattle.ep_base.specs.Wire.{Party, Heeded, unmoved, by_commands, image_after, takes_read, takes_opened, takes_frame, comes_down}
 use Rattle.ep_base.specs.Field.{Outside, OfA, OfB, outside_after, outside_reply, outside_reset, outside_halted, Placed, Told, untouched, by_reply, hears_frame, one_hears, all_hear, left_by, away, is_present, placed_reset, all_reset, Field, field_reset, all_take, field_hears, field_send}
-use Rattle.card_image.proofs.Kept.{deselects, card_answer_keeps}
+use Rattle.law_transaction.proofs.Imaging.{images_keep}
 use Rattle.law_wire.proofs.Passing.{next_legs}
 use Rattle.law_round.specs.Lawful.{IsUid, IsFormed, AtLevelOf, Stands, kind_of, id_of, IsPlaced, ArePlaced, names, AreApart, Lawful, BeginsLawful, StaysLawful}
 use Rattle.law_round.proofs.Presenting.{either, when, one_level}
@@ -113,7 +113,7 @@ same_party p = record { kind = refl; image = λ i. i }
 
 answered_keeps : (f : Activated → ℕ) (n : ℕ) (a : Answered × Image) (xs : List (List ℕ)) → IsImage a.1 → IsImage (answered (image_rules f) n a xs).1
 answered_keeps f n a [] i = i
-answered_keeps f n a (x ∷ xs) i = answered_keeps f n (card_answer a.1 x) xs (card_answer_keeps a.1 x i).1
+answered_keeps f n a (x ∷ xs) i = answered_keeps f n (card_answer a.1 x) xs ((images_keep f).stays n a.1 x i)
 
 image_keeps : (i : Image) (xs : List (List ℕ)) → IsImage i → IsImage (image_after i xs)
 image_keeps i xs h = answered_keeps (λ card. i.number) i.number (unasked, i) xs h
@@ -192,7 +192,7 @@ reset_same : (gone : Bool) (presence : List (List ℕ)) (n : ℕ) (ps : List Pla
 reset_same gone presence n [] = (λ h. h, refl)
 reset_same gone presence n (p ∷ ps) =
     same_cons p (placed_reset (is_present gone presence n) p) ps (all_reset gone presence (n + 1) ps)
-    (record { outside = moves_reset p.outside; party = record { kind = refl; image = λ i. deselects p.party.image i } })
+    (record { outside = moves_reset p.outside; party = record { kind = refl; image = λ i. (images_keep (λ card. 0)).clears p.party.image i } })
     (reset_same gone presence (n + 1) ps)
 
 pub lawful_reset : (f : Field) → Lawful f → Lawful (field_reset f)

@@ -1,15 +1,15 @@
 -- Over every field there is a round.
-use Rattle.std.proofs.Common.{◌≡◌, ℕ, zero, suc, ◌-◌, ◌≤◌, Bool, true, false, List, Option, Some, sym, subst, refl, arith}
+use Rattle.std.proofs.Common.{◌≡◌, ℕ, zero, suc, ◌≤◌, true, false, Option, Some, sym, subst, refl, arith}
 use Rattle.ep_base.specs.Hearing.{Asked, Hearing, RoundEnd, Turn, Goes, Ends}
 use Rattle.ep_base.specs.Round.{Stage, Waking, round_asks, round_hears}
 use Rattle.ep_base.specs.Air.{next_fate}
 use Rattle.ep_base.specs.Medium.{told, Exchanges, ExchangesBy}
-use Rattle.ep_base.specs.Polling.{Plays, PlaysRound}
+use Rattle.ep_base.specs.Polling.{Plays}
 use Rattle.ep_base.specs.Wire.{comes_back}
 use Rattle.ep_base.specs.Field.{joined, Field, field_reset, field_hears, field_send, field}
 use Rattle.law_round.specs.Ending.{AlwaysPlays}
 use Rattle.law_round.proofs.Rounds.{Awake, stays_awake, no_reset}
-use Rattle.law_round.proofs.Counting.{left, Leveled, Leaves, leaves, one_left}
+use Rattle.law_round.proofs.Counting.{left, Leveled, leaves, one_left}
 
 module _ (fsdi : ℕ) where
   abbrev SomeRound : ℕ → Turn Stage → Field → Type 0
