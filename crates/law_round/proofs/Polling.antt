@@ -1,12 +1,13 @@
 -- Polling over a field.
-use Rattle.std.proofs.Common.{◌≡◌, ◌≢◌, ℕ, zero, suc, List, [], ◌∷◌, Some, sym, ap, ◌∙◌, subst, refl}
+use Rattle.std.proofs.Common.{◌≡◌, ◌+◌, ◌≤◌, length, ◌≢◌, ℕ, zero, suc, List, [], ◌∷◌, Some, sym, ap, ◌∙◌, subst, refl}
 use Rattle.ep_base.specs.Hearing.{Activated, RoundEnd, Empty, Collision, Unsupported, Broken, Found}
 use Rattle.ep_base.specs.CardAnswer.{deselected}
 use Rattle.ep_base.specs.Medium.{told}
 use Rattle.ep_base.specs.Polling.{Polled, Came, NoCard, Device, AfterEnd, AfterRound, PlaysRound, PlaysRounds, card_in}
 use Rattle.ep_base.specs.Field.{outside_reset, Placed, Field, field}
 use Rattle.law_round.specs.Lawful.{Lawful, Face, faces, reset_faces}
-use Rattle.law_round.specs.Polled.{SameCards, EndsWithRound, PollsQuietly}
+use Rattle.law_round.specs.Polled.{SameCards, EndsWithRound, PollsQuietly, PollsReady}
+use Rattle.law_round.proofs.Readying.{opens_wire_law}
 use Rattle.law_round.proofs.Linking.{keeps_cards_law}
 
 -- faces without a selected application
@@ -76,3 +77,11 @@ module _ (fsdi : ℕ) where
 
 pub polls_quietly_law : PollsQuietly
 polls_quietly_law fsdi rounds s t ends polled l x = polls fsdi rounds s t ends polled l x
+
+pub polls_ready_law : PollsReady
+polls_ready_law fsdi rounds s t ends card set l x is room =
+    let y = (polls fsdi rounds s t ends (Came card) l x).3 in
+    let u = y.0 in
+    let same : SameCards s u = y.2 in
+    let free : length u.log + 2 ≤ u.room = subst (λ k. length u.log + 2 ≤ k) (sym same.room) (subst (λ (log : List (ℕ × List ℕ)). length log + 2 ≤ s.room) (sym same.log) room) in
+    (opens_wire_law fsdi u t card set y.1 y.3 is free, (keeps_cards_law fsdi u t (Some (Found card)) y.1 y.3).3 ∙ same.cards)

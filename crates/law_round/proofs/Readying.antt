@@ -47,13 +47,13 @@ fresh_link fsdi card kind one same h = record {
 }
 
 pub opens_wire_law : OpensWire
-opens_wire_law fsdi s t card set l x same size card_size room =
+opens_wire_law fsdi s t card set l x is room =
     let e = at_end fsdi card s t l x in
     let y = one_link fsdi card t e in
     let kept = keeps_cards_law fsdi s t (Some (Found card)) l x in
     let n = length y.0 in
     let party : party_at n t.cards ≡ y.1.party = ap (λ ps. party_at n ps) y.3 ∙ party_there y.0 y.1 y.2 in
-    let is_link_true : is_link set.kind false y.1 ≡ true = from_link set.kind false y.1 (fresh_link fsdi card set.kind y.1 same y.4) in
+    let is_link_true : is_link set.kind false y.1 ≡ true = from_link set.kind false y.1 (fresh_link fsdi card set.kind y.1 is.kind y.4) in
     let linked : linked_at set.kind t.air.gone n t.cards ≡ true =
     ap (λ gone. linked_at set.kind gone n t.cards) y.7 ∙ ap (λ ps. linked_at set.kind false n ps) y.3 ∙ linked_there set.kind y.0 y.1 y.2 is_link_true y.5 y.6 in
     let passages : are_passages t.air.fates ≡ true = passages_truth t.air.fates e.lawful.fates in
@@ -62,11 +62,11 @@ opens_wire_law fsdi s t card set l x same size card_size room =
     let ready : IsReady set n t = record {
       is = rw (linked, passages) refl;
       wire = record {
-        kind = ap (λ (p : Party). p.kind) party ∙ y.4.link_kind ∙ sym same;
-        frame = ap (λ (p : Party). p.fsd) party ∙ y.4.frame ∙ sym size;
-        card_least = subst (λ k. 16 ≤ k) (sym card_size) (round_sized (told field) fsdi s t card x).0;
-        reader_least = subst (λ k. 16 ≤ k) (sym size) sized.0;
-        reader_most = subst (λ k. k ≤ 256) (sym size) sized.1;
+        kind = ap (λ (p : Party). p.kind) party ∙ y.4.link_kind ∙ sym is.kind;
+        frame = ap (λ (p : Party). p.fsd) party ∙ y.4.frame ∙ sym is.reader;
+        card_least = subst (λ k. 16 ≤ k) (sym is.size) (round_sized (told field) fsdi s t card x).0;
+        reader_least = subst (λ k. 16 ≤ k) (sym is.reader) sized.0;
+        reader_most = subst (λ k. k ≤ 256) (sym is.reader) sized.1;
         image = subst (λ (p : Party). IsImage p.image) (sym party) placed.image;
         fates = e.lawful.fates;
         room = subst (λ k. length t.log + 2 ≤ k) (sym kept.2) (subst (λ (log : List (ℕ × List ℕ)). length log + 2 ≤ s.room) (sym kept.1) room);

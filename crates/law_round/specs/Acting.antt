@@ -89,10 +89,19 @@ pub record IsReady (set : LinkSetting) (n : ℕ) (t : Field) : Type 0 where
   pub wire : OfLink set (shown n t)
   pub rest : AtRest opened (shown n t).party.card
 
+-- One card has the link that was just opened with the card that was found, and it is ready for a command (this project's own).
+abbrev pub OpensTo : ℕ → Activated → LinkSetting → Field → Type 0
+OpensTo fsdi card set t =
+    (before : List Placed) × (one : Placed) × (after : List Placed) × (t.cards ≡ before ++ one ∷ after)
+    × HasLink fsdi card one × (party_at (length before) t.cards ≡ one.party) × IsReady set (length before) t
+
+-- The setting of the link with a card that was found (ISO/IEC 14443-4).
+pub record IsSet (fsdi : ℕ) (card : Activated) (set : LinkSetting) : Type 0 where
+  pub kind : set.kind ≡ card.kind
+  pub reader : set.frames.reader ≡ frame_size fsdi
+  pub size : set.frames.card ≡ card.fsc
+
 -- When a round ends with a card, the link with this card is ready for a command, where the log has two free records (this project's own).
 abbrev pub OpensWire : Type 0
 OpensWire = (fsdi : ℕ) (s t : Field) (card : Activated) (set : LinkSetting) →
-    Lawful s → PlaysRound (told field) fsdi s (Some (Found card)) t →
-    set.kind ≡ card.kind → set.frames.reader ≡ frame_size fsdi → set.frames.card ≡ card.fsc → length s.log + 2 ≤ s.room →
-    (before : List Placed) × (one : Placed) × (after : List Placed) × (t.cards ≡ before ++ one ∷ after)
-    × HasLink fsdi card one × (party_at (length before) t.cards ≡ one.party) × IsReady set (length before) t
+    Lawful s → PlaysRound (told field) fsdi s (Some (Found card)) t → IsSet fsdi card set → length s.log + 2 ≤ s.room → OpensTo fsdi card set t

@@ -1,10 +1,12 @@
 -- What polling leaves of a field.
-use Rattle.std.specs.Prelude.{◌≡◌, ◌≢◌, ℕ, List, Some}
-use Rattle.ep_base.specs.Hearing.{RoundEnd, Found}
+use Rattle.std.specs.Prelude.{◌≡◌, ◌≢◌, ℕ, ◌+◌, ◌≤◌, List, length, Some}
+use Rattle.ep_base.specs.Hearing.{Activated, RoundEnd, Found}
+use Rattle.ep_base.specs.LinkFrames.{LinkSetting}
 use Rattle.ep_base.specs.Medium.{told}
 use Rattle.ep_base.specs.Polling.{Polled, Came, NoCard, Device, PlaysRound, PlaysRounds}
 use Rattle.ep_base.specs.Field.{Field, field}
-use Rattle.law_round.specs.Lawful.{Lawful, reset_faces}
+use Rattle.law_round.specs.Lawful.{Lawful, faces, reset_faces}
+use Rattle.law_round.specs.Acting.{OpensTo, IsSet}
 
 -- The log and its room stay, and so do the plans and images of the cards but for the selected applications (this project's own).
 pub record SameCards (s t : Field) : Type 0 where
@@ -23,3 +25,10 @@ abbrev pub PollsQuietly : Type 0
 PollsQuietly = (fsdi rounds : ℕ) (s t : Field) (ends : List RoundEnd) (polled : Polled) →
     Lawful s → PlaysRounds (told field) fsdi rounds s ends polled t →
     (polled ≢ Device) × Lawful t × SameCards s t × EndsWithRound fsdi s t polled
+
+-- Polling that ends with a card leaves its link ready for a command, where the log has two free records, and in no image an application that is
+-- selected (this project's own).
+abbrev pub PollsReady : Type 0
+PollsReady = (fsdi rounds : ℕ) (s t : Field) (ends : List RoundEnd) (card : Activated) (set : LinkSetting) →
+    Lawful s → PlaysRounds (told field) fsdi rounds s ends (Came card) t → IsSet fsdi card set → length s.log + 2 ≤ s.room →
+    OpensTo fsdi card set t × (faces t.cards ≡ reset_faces s.cards)

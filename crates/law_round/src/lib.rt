@@ -11,7 +11,7 @@ ghost use Rattle.law_round.specs.Lawful.{BeginsLawful, StaysLawful};
 ghost use Rattle.law_round.specs.Linked.{KeepsCards, LinksOne, OnlyFound};
 ghost use Rattle.law_round.specs.Muteness.{OthersMute};
 ghost use Rattle.law_round.specs.Once.{ClosesQuietly, LeavesOthers, OnceInField, StaysReady};
-ghost use Rattle.law_round.specs.Polled.{PollsQuietly};
+ghost use Rattle.law_round.specs.Polled.{PollsQuietly, PollsReady};
 
 /// A field of a document's cards is lawful, and stays so in each reset and each exchange, whatever the frame.
 ///
@@ -48,9 +48,11 @@ pub fn keeps_cards()
 {}
 
 /// Polling over a lawful field never fails, executes nothing, and leaves plans and images as they are, but for the
-/// selected applications. Where it ends with a card, its last round does.
+/// selected applications. Where it ends with a card, its last round does, and the link with this card is ready for a
+/// command if the log has two free records.
 pub fn polls_quietly()
-    ensures { PollsQuietly }
+    ensures quiet { PollsQuietly }
+    ensures ready { PollsReady }
 {}
 
 /// A field with an open link is the wire of that link: after a round over a lawful field that ends with a card, the link
