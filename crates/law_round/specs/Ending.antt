@@ -1,0 +1,15 @@
+-- How long a poll round is.
+use Rattle.std.specs.Prelude.{◌≡◌, ℕ, ◌≤◌, List, length, Option}
+use Rattle.ep_base.specs.Hearing.{Hearing, RoundEnd, Ends}
+use Rattle.ep_base.specs.Round.{round_after}
+use Rattle.ep_base.specs.Medium.{told}
+use Rattle.ep_base.specs.Polling.{PlaysRound}
+use Rattle.ep_base.specs.Field.{Field, field}
+
+-- Whatever is heard, a round is over after eleven answers at most (this project's profile).
+abbrev pub EndsInEleven : Type 0
+EndsInEleven = (answers : List Hearing) → 11 ≤ length answers → (e : RoundEnd) × (round_after answers ≡ Ends e)
+
+-- Over every field there is a round (this project's own).
+abbrev pub AlwaysPlays : Type 0
+AlwaysPlays = (fsdi : ℕ) (s : Field) → (ending : Option RoundEnd) × (t : Field) × PlaysRound (told field) fsdi s ending t

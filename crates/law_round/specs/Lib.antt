@@ -1,0 +1,9 @@
+pub mod Acting
+pub mod Alone
+pub mod Ending
+pub mod Inside
+pub mod Lawful
+pub mod Linked
+pub mod Muteness
+pub mod Once
+pub mod Polled

@@ -1,0 +1,51 @@
+-- What a poll round leaves of a field.
+use Rattle.std.specs.Prelude.{◌≡◌, ℕ, true, false, List, [], ◌∷◌, ◌++◌, Option, Some}
+use Rattle.ep_base.specs.FrameSize.{frame_size}
+use Rattle.ep_base.specs.Hearing.{Activated, RoundEnd, Found}
+use Rattle.ep_base.specs.Medium.{told}
+use Rattle.ep_base.specs.Polling.{PlaysRound}
+use Rattle.ep_base.specs.BlockField.{fresh_card}
+use Rattle.ep_base.specs.Field.{Placed, Field, field}
+use Rattle.law_round.specs.Inside.{is_inside, all_out}
+use Rattle.law_round.specs.Lawful.{kind_of, id_of, Lawful, faces, reset_faces}
+
+-- Each of these cards that is in the block protocol is the one that was found (ISO/IEC 14443-3).
+abbrev pub AreFound : Activated → List Placed → Type 0
+AreFound card [] = Unit {0}
+AreFound card (p ∷ ps) =
+    (is_inside p.outside ≡ true → (kind_of p.outside ≡ card.kind) × (id_of p.outside ≡ card.id)) × AreFound card ps
+
+-- Whatever becomes of the frames and whichever cards are present: when a round ends with a card, no card of another kind or identifier is in
+-- the block protocol (this project's own).
+abbrev pub OnlyFound : Type 0
+OnlyFound = (fsdi : ℕ) (s t : Field) (card : Activated) →
+    Lawful s → PlaysRound (told field) fsdi s (Some (Found card)) t → AreFound card t.cards
+
+-- A card with a link that was just opened: it is the card that was found, is present and in the block protocol, and its end of the link is fresh,
+-- with the reader's frame size (ISO/IEC 14443-4).
+pub record HasLink (fsdi : ℕ) (card : Activated) (p : Placed) : Type 0 where
+  pub present : p.present ≡ true
+  pub inside : is_inside p.outside ≡ true
+  pub kind : kind_of p.outside ≡ card.kind
+  pub id : id_of p.outside ≡ card.id
+  pub link_kind : p.party.kind ≡ card.kind
+  pub frame : p.party.fsd ≡ frame_size fsdi
+  pub fresh : p.party.card ≡ fresh_card
+
+-- One card has such a link, all others are outside the block protocol, and the cards are still there (this project's own).
+abbrev pub OneLink : ℕ → Activated → Field → Type 0
+OneLink fsdi card t =
+    (before : List Placed) × (one : Placed) × (after : List Placed) × (t.cards ≡ before ++ one ∷ after)
+    × HasLink fsdi card one × (all_out before ≡ true) × (all_out after ≡ true) × (t.air.gone ≡ false)
+
+-- When a round ends with a card, this card alone is in the block protocol, with a fresh link, and it is present (this project's own).
+abbrev pub LinksOne : Type 0
+LinksOne = (fsdi : ℕ) (s t : Field) (card : Activated) →
+    Lawful s → PlaysRound (told field) fsdi s (Some (Found card)) t → OneLink fsdi card t
+
+-- However a round ends, it ends: nothing is executed in it, and of each card the plan and the image stay, in which no application is
+-- selected (this project's own).
+abbrev pub KeepsCards : Type 0
+KeepsCards = (fsdi : ℕ) (s t : Field) (ending : Option RoundEnd) →
+    Lawful s → PlaysRound (told field) fsdi s ending t →
+    ((e : RoundEnd) × (ending ≡ Some e)) × (t.log ≡ s.log) × (t.room ≡ s.room) × (faces t.cards ≡ reset_faces s.cards) × Lawful t
