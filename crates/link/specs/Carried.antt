@@ -1,4 +1,4 @@
--- What a command comes to that a reader's end carries over a medium.
+-- What a command comes to that a reader's end carries over a medium (this project's own).
 use Rattle.std.specs.Prelude.{◌≡◌, ℕ, List, [], ◌∷◌, ◌++◌, None, Result, Ok, Err}
 use Rattle.ep_base.specs.Hearing.{Hearing}
 use Rattle.ep_base.specs.Medium.{MediumSteps}

@@ -1,4 +1,4 @@
--- What a transport over a medium shows in plain data, and what it comes to over a wire.
+-- What a transport over a medium shows in plain data, and what it comes to over a wire (this project's own).
 use Rattle.std.specs.Prelude.{◌≡◌, ℕ, true, List, [], Option, Some, None, Result, Ok, Err, length}
 use Rattle.ep_base.specs.Block.{Deselect}
 use Rattle.ep_base.specs.Hearing.{wave_of_kind}
