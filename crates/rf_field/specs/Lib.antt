@@ -1,3 +1,5 @@
+pub mod Cards
 pub mod Meaning
+pub mod Outsides
 pub mod Parties
 pub mod Wires

@@ -3,7 +3,9 @@
 
 mod fates;
 mod legs;
+mod outside;
 mod party;
+mod placed;
 mod runs;
 mod wire;
 
