@@ -3,13 +3,17 @@ ghost use Rattle.std.specs.Prelude.{◌≡◌, ◌<◌, ◌++◌, length};
 ghost use Rattle.std.specs.Prelude.{false};
 ghost use Rattle.ep_base.specs.Field.{hears_frame, by_link, one_hears, placed_reset};
 ghost use Rattle.ep_base.specs.Wire.{takes_frame};
+ghost use Rattle.rf_field.specs.Plans.{PlanFits, placed_plan};
 
 use crate::outside::Outside;
 use crate::party::Party;
-use card_image::{CardImage, CardLog};
+use crate::plans::CardPlan;
+use card_image::CardLog;
 use ep_base::{CardKind, FrameBuf, Wave};
 use rf_frame::{CardHear, Sent};
 use std::marker::Model;
+use type_a::ACard;
+use type_b::BCard;
 
 // A card of the field: whether it is present, its side outside the block protocol, and its end of the link with its image.
 #[derive(Drop)]
@@ -29,6 +33,25 @@ impl Model for Placed {
 }
 
 impl Placed {
+    // The card of this plan before the first reset of its field.
+    pub(crate) fn of(plan: CardPlan) -> Placed
+        requires { PlanFits plan }
+        ensures { result ≡ placed_plan plan }
+    {
+        match plan {
+            CardPlan::A(plan, image) => Placed {
+                present: false,
+                outside: Outside::A(ACard::open(plan)),
+                party: Party::open(CardKind::A, 256, image),
+            },
+            CardPlan::B(plan, image) => Placed {
+                present: false,
+                outside: Outside::B(BCard::open(plan)),
+                party: Party::open(CardKind::B, 256, image),
+            },
+        }
+    }
+
     // What a present card sends after a frame. What it executes is listed in the log.
     fn hear_frame(&mut self, wave: Wave, frame: &FrameBuf, log: &mut CardLog) -> Option<Sent>
         requires { length log.old.0 < log.old.1 }
