@@ -94,4 +94,20 @@ impl CardEnd {
             CardKind::B => Wave::B,
         }
     }
+
+    /// The card's kind.
+    pub fn kind(&self) -> CardKind
+        ensures value { result ≡ kind_of self.now }
+    {
+        self.kind
+    }
+
+    /// The size of the reader's frames, in bytes.
+    pub fn fsd(&self) -> u16
+        ensures value { result ≡ fsd_of self.now }
+        ensures least { 16 ≤ result }
+        ensures most { result ≤ 256 }
+    {
+        self.fsd
+    }
 }

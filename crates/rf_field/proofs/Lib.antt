@@ -1,2 +1,5 @@
 pub mod Left
+pub mod Replies
+pub mod Rounds
 pub mod Taking
+pub mod Together

@@ -1,3 +1,9 @@
+pub mod Airs
+pub mod Cards
+pub mod Fields
 pub mod Meaning
+pub mod Outsides
 pub mod Parties
+pub mod Plans
+pub mod Presences
 pub mod Wires

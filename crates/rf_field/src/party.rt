@@ -2,6 +2,9 @@
 ghost use Rattle.std.specs.Prelude.{◌≡◌, ◌<◌, ◌≤◌, ◌++◌, length};
 ghost use Rattle.std.specs.Option.{option_copied, option_map};
 ghost use Rattle.ep_base.specs.BlockField.{fresh_card};
+ghost use Rattle.ep_base.specs.CardAnswer.{deselected};
+ghost use Rattle.ep_base.specs.CardEnd.{is_halted};
+ghost use Rattle.ep_base.specs.Field.{opens_link};
 ghost use Rattle.ep_base.specs.Hearing.{wave_of_kind};
 ghost use Rattle.ep_base.specs.Wire.{takes_frame};
 ghost use Rattle.rf_field.specs.Parties.{party_of, takes_awake};
@@ -29,6 +32,31 @@ impl Party {
             end: CardEnd::open(kind, fsd),
             image,
         }
+    }
+
+    // The block protocol is opened anew, by a reader with frames of 16 to 256 bytes.
+    pub(crate) fn reopen(&mut self, fsd: u16)
+        requires least { 16 ≤ fsd }
+        requires most { fsd ≤ 256 }
+        ensures { party_of self.new ≡ opens_link (party_of self.old) fsd }
+    {
+        self.end = CardEnd::open(self.end.kind(), fsd);
+    }
+
+    // The next round began: the card is in no link, and no application is selected.
+    pub(crate) fn reset(&mut self)
+        ensures { party_of self.new ≡ record (opens_link (party_of self.old) (party_of self.old).fsd) { image = deselected (party_of self.old).image } }
+    {
+        let fsd = self.end.fsd();
+        self.reopen(fsd);
+        self.image.reset_selection();
+    }
+
+    // Whether the block protocol was ended by S(DESELECT).
+    pub(crate) fn halted(&self) -> bool
+        ensures { result ≡ is_halted (party_of self.now).card }
+    {
+        self.end.halted()
     }
 
     // The frame that the card sends after one of its own wave, which was damaged where there is no payload.

@@ -1,6 +1,8 @@
 //! One card under fates, exchange by exchange.
 ghost use Rattle.rf_field.specs.Meaning.{IsRun};
 
+mod field;
+
 use crate::{Burst, CardImage, CardKind, Fate, FateRun, Medium, Way, Wire};
 use apdu::Command;
 use ep_base::{FrameBuf, Wave};

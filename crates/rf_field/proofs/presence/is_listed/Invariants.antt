@@ -1,0 +1,7 @@
+use Rattle.std.proofs.Common.{◌≡◌, drop}
+use Rattle.ep_base.specs.Field.{names}
+use Rattle.rf_field.proofs.presence.is_listed.Given as goal
+
+-- the number is in the list just where it is in what is left of it
+abbrev pub invariant-loop-listed : goal.invariant-loop-listed
+invariant-loop-listed l = names l.number (drop l.listed-index l.list) ≡ names l.number l.initial.list

@@ -1,0 +1,166 @@
+//! Several cards in a field, under fates.
+ghost use Rattle.std.specs.Prelude.{◌≡◌, All, map, if◌then◌else◌, is_ok, IsOk, IsErr, IfOk};
+ghost use Rattle.ep_base.specs.Air.{gone_by};
+ghost use Rattle.ep_base.specs.Causes.{HasCause};
+ghost use Rattle.ep_base.specs.Medium.{told};
+ghost use Rattle.ep_base.specs.Field as plain;
+ghost use Rattle.rf_frame.specs.Meaning.{heard_of, maybe_heard};
+ghost use Rattle.rf_field.specs.Fields.{field_of, hears_by};
+ghost use Rattle.rf_field.specs.Meaning.{IsRun, leg_of, passage_of, passages};
+ghost use Rattle.rf_field.specs.Plans.{PlanFits, placed_plan};
+ghost use Rattle.rf_field.specs.Presences.{lists_of};
+
+use crate::crowd::{hear_all, leave_all, place_all, reset_all};
+use crate::fates::{Fate, FateRun, Way};
+use crate::legs::{comes_back, comes_down};
+use crate::placed::Placed;
+use crate::plans::CardPlan;
+use crate::presence::Presence;
+use crate::runs::Fates;
+use card_image::CardLog;
+use ep_base::{Buf, FrameBuf, NoMemory, Wave};
+use rf_frame::{Heard, Medium, RfFailed};
+use std::alloc::Global;
+
+/// The cards of a transaction in the field of a reader. A reset begins the next round, and each exchange takes the next
+/// fate; all frames pass after the last. The cards hear a frame one after another in the order of their numbers, which
+/// run from 1, and a card hears none while the log has no free record. Equal answers are heard as one frame.
+#[derive(Drop)]
+pub struct Field {
+    cards: Vec<Placed>,
+    presence: Presence,
+    log: CardLog,
+    fates: Fates,
+    // Whether the cards left.
+    gone: bool,
+    rounds: u64,
+    exchanges: u64,
+}
+
+impl Field {
+    /// A field of these cards, at most 4, of which none is present before the first reset. The image in place k was
+    /// opened with the number k, counted from 1. No two cards of one kind have the same UID or PUPI. `presence` names
+    /// the cards that are present in each round: the last list holds for all rounds after it, and without a list all
+    /// cards are present. Each run of fates has at least one exchange. The log has room for so many records.
+    ///
+    /// Errors: `NoMemory`.
+    pub fn open(
+        alloc: Global,
+        cards: Vec<CardPlan>,
+        presence: Vec<Buf<4>>,
+        fates: Vec<FateRun>,
+        room: usize,
+    ) -> Result<Field, NoMemory>
+        requires plans { All PlanFits cards.items }
+        requires runs { All IsRun fates.items }
+        ensures ok { IfOk result (λ f. field_of f ≡ plain.new_field (map placed_plan cards.items) (lists_of presence.items) (passages fates.items) room) }
+    {
+        let cards = place_all(alloc, cards)?;
+        let log = CardLog::open(alloc, room)?;
+        Ok(Field {
+            cards,
+            presence: Presence::of(presence),
+            log,
+            fates: Fates::of(fates),
+            gone: false,
+            rounds: 0,
+            exchanges: 0,
+        })
+    }
+
+    /// The commands that the cards executed, each with the number of its card.
+    pub fn log(&self) -> &CardLog
+        ensures records { result.now.0 ≡ (field_of self.now).log }
+        ensures room { result.now.1 ≡ (field_of self.now).room }
+    {
+        &self.log
+    }
+
+    /// How many rounds were begun. The count stays at the end of its type.
+    pub fn rounds(&self) -> u64
+        ensures value { result ≡ (field_of self.now).rounds }
+    {
+        self.rounds
+    }
+
+    /// How many exchanges were made. The count stays at the end of its type.
+    pub fn exchanges(&self) -> u64
+        ensures value { result ≡ (field_of self.now).exchanges }
+    {
+        self.exchanges
+    }
+
+    /// Whether the cards left for the rest of the transaction.
+    pub fn gone(&self) -> bool
+        ensures value { result ≡ (field_of self.now).air.gone }
+    {
+        self.gone
+    }
+
+    // What is in the air after a frame that takes this way down.
+    fn carry_down(&mut self, way: Way, wave: Wave, frame: &FrameBuf) -> Heard
+        ensures field { field_of self.new ≡ record (field_of self.old) {
+          cards = (hears_by (field_of self.old) (leg_of way) wave frame.now.items).cards;
+          log = (hears_by (field_of self.old) (leg_of way) wave frame.now.items).log;
+        } }
+        ensures heard { heard_of result ≡ plain.joined (hears_by (field_of self.old) (leg_of way) wave frame.now.items).answers }
+    {
+        match comes_down(way, wave, frame) {
+            None => Heard::Silence,
+            Some(frame) => hear_all(&mut self.cards, wave, &frame, &mut self.log),
+        }
+    }
+
+    // The cards leave where this fate says so.
+    fn depart(&mut self, fate: Fate)
+        ensures { field_of self.new ≡ record (field_of self.old) {
+          cards = (if plain.away (passage_of fate) then plain.left_by (field_of self.old).cards else (field_of self.old).cards);
+          air = record { fates = (field_of self.old).air.fates; gone = gone_by (gone_by (field_of self.old).air.gone (leg_of fate.down)) (leg_of fate.up) };
+        } }
+    {
+        if fate.down == Way::Leave || fate.up == Way::Leave {
+            leave_all(&mut self.cards);
+            self.gone = true;
+        }
+    }
+}
+
+impl Medium for Field {
+    ghost use Rattle.ep_base.specs.Field as plain;
+    ghost use Rattle.ep_base.specs.Medium.{told};
+    ghost use Rattle.rf_field.specs.Fields.{field_of};
+
+    ghost State = { plain.Field };
+
+    ghost state = { field_of };
+
+    ghost steps = { told plain.field };
+
+    ghost faults = { λ f. 0 };
+
+    /// Begins the next round: the cards of the next presence list are present, idle, and without a selected
+    /// application. There is no error.
+    fn reset(&mut self) -> Result<(), RfFailed>
+        ensures step { (told plain.field).resets (field_of self.old) (is_ok result) (field_of self.new) }
+        ensures cause { HasCause 0 0 (IsErr result) }
+        ensures always { IsOk result }
+    {
+        reset_all(&mut self.cards, self.gone, &self.presence);
+        self.presence.advance();
+        self.rounds = self.rounds.saturating_add(1);
+        Ok(())
+    }
+
+    /// Makes one exchange. There is no error.
+    fn send(&mut self, wave: Wave, frame: &FrameBuf, _wait: u32) -> Result<Heard, RfFailed>
+        ensures step { (told plain.field).sends (field_of self.old) wave frame.now.items _wait (maybe_heard result) (field_of self.new) }
+        ensures cause { HasCause 0 0 (IsErr result) }
+        ensures always { IsOk result }
+    {
+        let fate = self.fates.next();
+        let heard = self.carry_down(fate.down, wave, frame);
+        self.depart(fate);
+        self.exchanges = self.exchanges.saturating_add(1);
+        Ok(comes_back(fate.up, heard))
+    }
+}

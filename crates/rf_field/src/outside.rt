@@ -1,0 +1,50 @@
+//! A card's side outside the block protocol.
+ghost use Rattle.std.specs.Prelude.{◌≡◌};
+ghost use Rattle.ep_base.specs.Field.{outside_after, outside_reply, outside_reset, outside_halted};
+ghost use Rattle.rf_frame.specs.Meaning.{card_hear_of};
+ghost use Rattle.rf_field.specs.Outsides.{outside_of};
+
+use ep_base::{FrameBuf, Wave};
+use rf_frame::CardHear;
+use type_a::ACard;
+use type_b::BCard;
+
+// A card of either type, outside the block protocol.
+#[derive(Drop)]
+pub(crate) enum Outside {
+    A(ACard),
+    B(BCard),
+}
+
+impl Outside {
+    // What the card does with a frame. In the block protocol it passes on the frames of its own wave.
+    pub(crate) fn hear(&mut self, wave: Wave, frame: &FrameBuf) -> CardHear
+        ensures after { outside_of self.new ≡ outside_after wave frame.now.items (outside_of self.old) }
+        ensures reply { card_hear_of result ≡ outside_reply wave frame.now.items (outside_of self.old) }
+    {
+        match self {
+            Outside::A(card) => card.hear(wave, frame),
+            Outside::B(card) => card.hear(wave, frame),
+        }
+    }
+
+    // The field was reset.
+    pub(crate) fn reset(&mut self)
+        ensures { outside_of self.new ≡ outside_reset (outside_of self.old) }
+    {
+        match self {
+            Outside::A(card) => card.reset(),
+            Outside::B(card) => card.reset(),
+        }
+    }
+
+    // The block protocol ended by S(DESELECT).
+    pub(crate) fn halt(&mut self)
+        ensures { outside_of self.new ≡ outside_halted (outside_of self.old) }
+    {
+        match self {
+            Outside::A(card) => card.halt(),
+            Outside::B(card) => card.halt(),
+        }
+    }
+}
