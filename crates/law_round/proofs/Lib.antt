@@ -7,6 +7,7 @@ pub mod Doing
 pub mod Fitting
 pub mod Hearing
 pub mod Lawfulness
+pub mod Learning
 pub mod Linking
 pub mod Lone
 pub mod Muteness
