@@ -163,7 +163,7 @@ up_reads P next ABare m u k l leg b h = absurd k
 -- ---- one card
 
 -- what is heard of all answers is this one
-abbrev Agrees : Hearing → CardReply → Type 0
+abbrev pub Agrees : Hearing → CardReply → Type 0
 Agrees h Mute = Unit {0}
 Agrees h (Sends f) = h ≡ Frame f.wave f.bytes
 Agrees h (Opens f fsd) = h ≡ Frame f.wave f.bytes
@@ -275,7 +275,7 @@ module _ (u : Leg) (leg : IsLeg u) (h : Hearing) where
   unfolding AfterWupb
   wupb_knows p s f d n = subst (λ x. AfterWupb p x) (sym (wakes_up_b p s n)) (λ a. wupb_found p f d a)
 
-  knows_step : (fsdi : ℕ) (stage : Stage) (o : Outside) → IsFormed o → CanTell o → Next (Goes stage) o → Knows (Goes stage) o
+  pub knows_step : (fsdi : ℕ) (stage : Stage) (o : Outside) → IsFormed o → CanTell o → Next (Goes stage) o → Knows (Goes stage) o
       → Agrees h (outside_reply (round_asks fsdi stage).wave (round_asks fsdi stage).bytes o)
       → Knows (round_hears stage (comes_back u h)) (outside_after (round_asks fsdi stage).wave (round_asks fsdi stage).bytes o)
   unfolding AfterRats AfterWupb

@@ -21,3 +21,4 @@ pub mod Singling
 pub mod Sizing
 pub mod SoloA
 pub mod SoloB
+pub mod Telling
