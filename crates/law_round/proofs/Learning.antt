@@ -1,12 +1,9 @@
 -- What a reader learns of a card in a round is what the card sent.
-use Rattle.std.proofs.Common.{◌≡◌, ℕ, zero, suc, ◌+◌, ◌*◌, ◌/◌, ◌%◌, ◌<◌, ◌≤◌, ◌^◌, ◌==◌, nat_eq, nat_lt, ◌&&◌, ◌||◌, ◌⊎◌, inl, inr, Bool, true, false, List, [], ◌∷◌, ◌++◌, length, Option, Some, None, sym, ap, ◌∙◌, subst, refl, arith, append-nil, if◌then◌else◌}
+use Rattle.std.proofs.Common.{◌≡◌, ℕ, ◌+◌, ◌*◌, ◌/◌, ◌%◌, ◌<◌, ◌^◌, ◌==◌, nat_eq, nat_lt, ◌&&◌, Bool, true, false, List, [], ◌∷◌, ◌++◌, length, Option, Some, None, sym, ap, ◌∙◌, subst, refl, arith, if◌then◌else◌}
 use Rattle.std.specs.Prelude.{slice_index, Result, Ok, Err}
-use Rattle.std.specs.Str.{bytes_eq}
 use Rattle.std.proofs.lemmas.Bool.{and_parts}
 use Rattle.ep_base.specs.declared.air.Wave.{Wave}
 use Rattle.ep_base.specs.declared.air.Wave.TheVariants.{AShort, ABare, A, B}
-use Rattle.ep_base.specs.declared.activation.Ats.{Ats}
-use Rattle.ep_base.specs.declared.activation.AtsFault.{AtsFault}
 use Rattle.ep_base.specs.declared.activation.Atqb.{Atqb}
 use Rattle.ep_base.specs.declared.activation.AtqbFault.{AtqbFault}
 use Rattle.ep_base.specs.Frame.{HasCheck, sealed, opened, hits, after_burst}
@@ -19,17 +16,16 @@ use Rattle.ep_base.specs.TypeB.{BStage, attrib_of, after_atqb, b_says, BPlan, BS
 use Rattle.ep_base.specs.Round.{Stage, Waking, Halting, WakingB, InA, InB, round_asks, round_hears, in_a, in_b}
 use Rattle.ep_base.specs.Air.{Leg, Passes, Loses, Bursts, Leaves, IsLeg}
 use Rattle.ep_base.specs.Wire.{comes_back}
-use Rattle.ep_base.specs.Field.{Outside, OfA, OfB, outside_after, outside_reply, outside_reset, Placed, Told, untouched, by_reply, hears_frame, one_hears, Heard, maybe_answer, and_then, all_hear, same_frame, all_same, joined}
+use Rattle.ep_base.specs.Field.{Outside, OfA, OfB, outside_after, outside_reply, Placed}
 use Rattle.rf_frame.proofs.Opening.{opened_sealed, ends_sealed, after_burst-missed}
 use Rattle.law_round.specs.Inside.{a_inside, b_inside, is_inside}
-use Rattle.law_round.specs.Lawful.{IsFour, Bytes, IsFormed, ArePlaced, faces}
-use Rattle.law_round.specs.Learned.{CanTell, AllCanTell, IsLearned, AreLearned}
+use Rattle.law_round.specs.Lawful.{IsFour, Bytes, IsFormed}
+use Rattle.law_round.specs.Learned.{CanTell, IsLearned}
 use Rattle.law_round.proofs.Arriving.{after_hit}
 use Rattle.law_round.proofs.Fitting.{Chosen, Next}
-use Rattle.law_round.proofs.Presenting.{takes, same_part, either, when, answered}
+use Rattle.law_round.proofs.Presenting.{takes, either, when, answered}
 use Rattle.law_round.proofs.PresentingB.{its_own}
-use Rattle.law_round.proofs.Doing.{is_last, Does, does, not_inside, not_inside_b, four_long, stays_mute, away_mute, wakes_up_b}
-use Rattle.law_round.proofs.Hearing.{AllFits, CardFits, Heeds, by_present}
+use Rattle.law_round.proofs.Doing.{is_last, not_inside, not_inside_b, four_long, stays_mute, away_mute, wakes_up_b}
 use Rattle.law_round.proofs.SoloA.{ats_read}
 
 -- ---- what is known of a card by the answers so far

@@ -1,5 +1,5 @@
 -- A round that ends with a card tells what its plan says.
-use Rattle.std.proofs.Common.{◌≡◌, ℕ, zero, suc, ◌+◌, ◌<◌, nat_lt, ◌&&◌, ◌||◌, ◌⊎◌, inl, inr, Bool, true, false, List, [], ◌∷◌, ◌++◌, length, Option, Some, None, sym, ap, ◌∙◌, subst, refl, append-nil, if◌then◌else◌}
+use Rattle.std.proofs.Common.{◌≡◌, ℕ, zero, suc, nat_lt, ◌&&◌, ◌⊎◌, inl, inr, Bool, true, false, List, [], ◌∷◌, ◌++◌, length, Option, Some, None, sym, ap, ◌∙◌, subst, refl, append-nil, if◌then◌else◌}
 use Rattle.std.specs.Str.{bytes_eq}
 use Rattle.std.proofs.lemmas.Bool.{and_parts}
 use Rattle.ep_base.specs.declared.air.Wave.{Wave}
@@ -8,16 +8,15 @@ use Rattle.ep_base.specs.Hearing.{Framed, same_wave, Hearing, Silence, Overlap, 
 use Rattle.ep_base.specs.Hearing as replies
 use Rattle.ep_base.specs.Round.{Stage, Waking, round_asks, round_hears}
 use Rattle.ep_base.specs.Air.{Leg, IsLeg, next_fate}
-use Rattle.ep_base.specs.Medium.{told, AfterReset}
+use Rattle.ep_base.specs.Medium.{told}
 use Rattle.ep_base.specs.Polling.{AfterExchange, Plays, PlaysRound}
-use Rattle.ep_base.specs.Wire.{comes_down, comes_back}
-use Rattle.ep_base.specs.Field.{Outside, OfA, OfB, outside_after, outside_reply, outside_reset, Placed, Told, untouched, by_reply, hears_frame, one_hears, Heard, maybe_answer, and_then, all_hear, same_frame, all_same, joined, left_by, away, Field, field_reset, all_take, field_hears, field_send, field}
+use Rattle.ep_base.specs.Wire.{comes_back}
+use Rattle.ep_base.specs.Field.{Outside, OfA, OfB, outside_after, outside_reply, outside_reset, Placed, Told, untouched, by_reply, hears_frame, one_hears, Heard, maybe_answer, all_hear, same_frame, all_same, joined, left_by, away, Field, field_reset, all_take, field_hears, field_send, field}
 use Rattle.law_wire.proofs.Passing.{next_legs}
 use Rattle.law_round.specs.Inside.{is_inside}
 use Rattle.law_round.specs.Lawful.{IsFormed, ArePlaced, Lawful, faces, reset_faces}
 use Rattle.law_round.specs.Learned.{CanTell, AllCanTell, IsLearned, AreLearned, FoundAsPlanned}
 use Rattle.law_round.proofs.Arriving.{Arrival, Lost, Whole, Damaged, arrives}
-use Rattle.law_round.proofs.Fitting.{Next}
 use Rattle.law_round.proofs.Presenting.{same_part}
 use Rattle.law_round.proofs.Doing.{is_last, Does, does}
 use Rattle.law_round.proofs.Hearing.{CardFits, AllFits, AllAway, by_present, full_hear, damaged_hear}
