@@ -1,10 +1,10 @@
 -- Where a reader's end stands after a step.
 use Rattle.std.proofs.Common.{◌≡◌, ℕ, ◌-◌, Bool, true, false, List, [], ◌∷◌, ◌++◌, refl, sym, ap, ◌∙◌, subst}
-use Rattle.std.specs.Prelude.{reverse, if◌then◌else◌}
+use Rattle.std.specs.Prelude.{reverse}
 use Rattle.std.proofs.lemmas.List.{reverse-append}
 use Rattle.ep_base.specs.Hearing.{Asked, Hearing}
-use Rattle.ep_base.specs.Block.{Block, Heard, other, same, is_bad, count}
-use Rattle.ep_base.specs.ReaderEnd.{Reader, Phase, Turn, Asks, Gives, Spends, Breaks, question, asked, begin, kept, reader_hears}
+use Rattle.ep_base.specs.Block.{Heard, other, same}
+use Rattle.ep_base.specs.ReaderEnd.{Reader, Phase, Turn, Asks, Gives, Spends, Breaks, question, asked, begin, reader_hears}
 use Rattle.ep_base.specs.Dialogue.{block_of}
 use Rattle.ep_base.specs.LinkFrames.{LinkSetting, Kept, BreachData, block_ask, heard_block, breach_of}
 use Rattle.ep_base.specs.LinkEvents.{AreKept, LinkEvent, Begins, Hears, Standing, frame_of, exchange_of, kept_after, then_stands, then_link, standing_from, standing_after}

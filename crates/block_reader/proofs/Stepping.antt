@@ -15,7 +15,7 @@ use Rattle.block_reader.specs.declared.stages.Question.TheVariants as ask
 use Rattle.block_reader.specs.declared.stages.Question.{Question}
 use Rattle.block_reader.specs.declared.stages.Step.TheVariants as step
 use Rattle.block_reader.specs.declared.stages.Step.{Step}
-use Rattle.block_reader.specs.Progress.{Course, phase_by, block_by, IsAt, Sends, StepShows, NoneGot}
+use Rattle.block_reader.specs.Progress.{Course, phase_by, block_by, Sends, StepShows, NoneGot}
 use Rattle.block_reader.proofs.Cuts.{cut_at_last, cut_at_more}
 
 pub same_true : (a b : Bool) → a ≡ b → same a b ≡ true

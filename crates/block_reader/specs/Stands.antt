@@ -3,13 +3,11 @@ use Rattle.std.specs.Prelude.{◌≡◌, ℕ, ◌+◌, ◌-◌, ◌*◌, Bool, t
 use Rattle.ep_base.specs.Hearing.{Hearing}
 use Rattle.ep_base.specs.Block.{Heard, is_bad, count}
 use Rattle.ep_base.specs.ReaderEnd.{Reader, Idle, Turn, Asks, Gives, Spends, Breaks, asked}
-use Rattle.ep_base.specs.Link.{Frames}
 use Rattle.ep_base.specs.LinkFrames.{LinkSetting, Kept, block_ask, heard_block, breach_of}
 use Rattle.ep_base.specs.LinkEvents.{AreKept, LinkEvent, Standing, standing_after}
 use Rattle.block_reader.specs.Counts as counts
 use Rattle.block_reader.specs.Progress.{Course, course, IsAt, Sends}
 use Rattle.block_reader.specs.declared.reader_end.ReaderEnd.{ReaderEnd}
-use Rattle.block_reader.specs.declared.stages.Stage.{Stage}
 use Rattle.block_reader.specs.declared.stages.Stage.TheVariants as stage
 use Rattle.block_reader.specs.declared.ends.Next.{Next}
 use Rattle.block_reader.specs.declared.ends.Next.TheVariants.{Ask, Done, Failed}

@@ -8,6 +8,7 @@ pub mod BlockField
 pub mod Candidates
 pub mod CardAnswer
 pub mod CardEnd
+pub mod CardLimits
 pub mod Carry
 pub mod Causes
 pub mod Check
@@ -40,6 +41,7 @@ pub mod Perfect
 pub mod PreProcessing
 pub mod ReaderEnd
 pub mod Polling
+pub mod Radio
 pub mod Reading
 pub mod ReportLine
 pub mod Round

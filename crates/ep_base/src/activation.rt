@@ -53,7 +53,8 @@ pub fn bit(byte: u8, weight: u8) -> u8
 
 /// The frame waiting time integer of a nibble (ISO/IEC 14443-4): 15 counts as 4, which is this project's profile.
 pub fn waiting(nibble: u8) -> u8
-    ensures { result ≡ waiting nibble }
+    ensures value { result ≡ waiting nibble }
+    ensures most { nibble < 16 → result ≤ 14 }
 {
     if nibble == 15 { 4 } else { nibble }
 }

@@ -1,4 +1,4 @@
--- How long a poll round is.
+-- How long a poll round is (this project's own).
 use Rattle.std.specs.Prelude.{◌≡◌, ℕ, ◌≤◌, List, length, Option}
 use Rattle.ep_base.specs.Hearing.{Hearing, RoundEnd, Ends}
 use Rattle.ep_base.specs.Round.{round_after}

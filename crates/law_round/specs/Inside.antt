@@ -1,4 +1,4 @@
--- Which cards of a field are in the block protocol.
+-- Which cards of a field are in the block protocol (this project's own).
 use Rattle.std.specs.Prelude.{nat_le, ◌&&◌, Bool, true, false, List, [], ◌∷◌}
 use Rattle.ep_base.specs.TypeA.{AState, Idle, Ready, Active, Protocol, Halted}
 use Rattle.ep_base.specs.TypeB.{BState, BIdle, BReady, BProtocol}

@@ -1,4 +1,4 @@
--- What a poll round leaves of a field.
+-- What a poll round leaves of a field (this project's own).
 use Rattle.std.specs.Prelude.{◌≡◌, ℕ, true, false, List, [], ◌∷◌, ◌++◌, Option, Some}
 use Rattle.ep_base.specs.FrameSize.{frame_size}
 use Rattle.ep_base.specs.Hearing.{Activated, RoundEnd, Found}

@@ -1,4 +1,4 @@
--- Cards outside the block protocol while blocks are sent.
+-- Cards outside the block protocol while blocks are sent (this project's own).
 use Rattle.std.specs.Prelude.{◌≡◌, ℕ, true, List, [], Some}
 use Rattle.ep_base.specs.declared.air.CardKind.{CardKind}
 use Rattle.ep_base.specs.Hearing.{wave_of_kind}

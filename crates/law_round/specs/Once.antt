@@ -1,4 +1,4 @@
--- A command over an open link of a field.
+-- A command over an open link of a field (this project's own).
 use Rattle.std.specs.Prelude.{◌≡◌, ℕ, ◌+◌, ◌≤◌, true, List, length, Option}
 use Rattle.ep_base.specs.Hearing.{Hearing}
 use Rattle.ep_base.specs.Block.{Deselect}

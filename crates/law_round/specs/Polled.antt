@@ -1,4 +1,4 @@
--- What polling leaves of a field.
+-- What polling leaves of a field (this project's own).
 use Rattle.std.specs.Prelude.{◌≡◌, ◌≢◌, ℕ, ◌+◌, ◌≤◌, List, length, Some}
 use Rattle.ep_base.specs.Hearing.{Activated, RoundEnd, Found}
 use Rattle.ep_base.specs.LinkFrames.{LinkSetting}

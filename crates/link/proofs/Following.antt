@@ -1,5 +1,5 @@
 -- A command over a medium, hearing by hearing.
-use Rattle.std.proofs.Common.{◌≡◌, ℕ, Bool, true, false, List, [], ◌∷◌, ◌++◌, Option, Some, None, Result, Ok, Err, refl, sym, ap, ◌∙◌, subst}
+use Rattle.std.proofs.Common.{◌≡◌, ℕ, Bool, true, List, [], ◌∷◌, ◌++◌, Option, Some, None, Result, Ok, Err, refl, sym, ap, ◌∙◌, subst}
 use Rattle.ep_base.specs.Hearing.{Asked, Hearing, wave_of_kind}
 use Rattle.ep_base.specs.Frame.{sealed}
 use Rattle.ep_base.specs.Medium.{MediumSteps}
@@ -7,7 +7,7 @@ use Rattle.ep_base.specs.Apdu.{is_command}
 use Rattle.ep_base.specs.Block.{Block}
 use Rattle.ep_base.specs.ReaderEnd.{Reader, Turn, Asks, Gives, Spends, Breaks, asked, begin}
 use Rattle.ep_base.specs.Spelling.{spelled}
-use Rattle.ep_base.specs.LinkFrames.{LinkSetting, BreachData, block_ask, breach_of}
+use Rattle.ep_base.specs.LinkFrames.{LinkSetting, BreachData, block_ask}
 use Rattle.ep_base.specs.Wire.{Wire, wire_send}
 use Rattle.ep_base.specs.Carry.{SendsBlock, turn_on, GoesOn, Follows, AtRest, OfLink, OnceSo, ActsAs}
 use Rattle.law_wire.proofs.Alike.{carried_alike_lem}
@@ -15,8 +15,8 @@ use Rattle.block_reader.specs.declared.ends.Next.{Next}
 use Rattle.block_reader.specs.declared.ends.Next.TheVariants.{Ask, Done, Failed}
 use Rattle.block_reader.specs.declared.ends.LinkEnd.{LinkEnd}
 use Rattle.block_reader.specs.declared.ends.LinkEnd.TheVariants.{Spent, Breach, Device}
-use Rattle.block_reader.specs.Stands.{Held, Rests, Asking, Fails, Shows}
-use Rattle.link.specs.Carried.{Answers, RunsOut, IsBroken, IsLost, Carried, Agrees, ByWire}
+use Rattle.block_reader.specs.Stands.{Held, Asking, Shows}
+use Rattle.link.specs.Carried.{Carried, ByWire}
 
 reader_of : Turn → Reader
 reader_of (Asks r) = r

@@ -1,4 +1,4 @@
--- What the answers of a transport stand for in plain data.
+-- What the answers of a transport stand for in plain data (this project's own).
 use Rattle.std.specs.Prelude.{ℕ, List, Result, Ok, Err}
 use Rattle.ep_base.specs.Transport.{Presentation, Here, Nobody, Gone, Reply, Answered, Breached, Lost}
 use Rattle.ep_base.specs.Transport as plain

@@ -1,14 +1,13 @@
--- What a command comes to that a reader's end carries over a medium.
-use Rattle.std.specs.Prelude.{◌≡◌, ℕ, Bool, true, List, [], ◌∷◌, ◌++◌, Option, Some, None, Result, Ok, Err}
+-- What a command comes to that a reader's end carries over a medium (this project's own).
+use Rattle.std.specs.Prelude.{◌≡◌, ℕ, List, [], ◌∷◌, ◌++◌, None, Result, Ok, Err}
 use Rattle.ep_base.specs.Hearing.{Hearing}
 use Rattle.ep_base.specs.Medium.{MediumSteps}
-use Rattle.ep_base.specs.ReaderEnd.{Reader, Turn, Asks, Gives, Spends, Breaks, asked}
+use Rattle.ep_base.specs.ReaderEnd.{Reader, Asks, Gives, Spends, Breaks, asked}
 use Rattle.ep_base.specs.LinkFrames.{LinkSetting, breach_of}
-use Rattle.ep_base.specs.LinkEvents.{LinkEvent, Begins, Hears}
 use Rattle.ep_base.specs.Carry.{SendsBlock, Follows, AtRest, AtMostOnce, Executed}
 use Rattle.ep_base.specs.CardAnswer.{card_answer}
 use Rattle.ep_base.specs.Wire.{Wire}
-use Rattle.block_reader.specs.Stands.{Held, Rests, Asking, Fails, StandsFor}
+use Rattle.block_reader.specs.Stands.{Held, Rests, Asking, Fails}
 use Rattle.block_reader.specs.declared.ends.LinkEnd.{LinkEnd}
 use Rattle.block_reader.specs.declared.ends.LinkEnd.TheVariants.{Spent, Breach, Device}
 

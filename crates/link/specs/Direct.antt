@@ -1,4 +1,4 @@
--- What a direct transport shows in plain data.
+-- What a direct transport shows in plain data (this project's own).
 use Rattle.std.specs.Prelude.{ℕ, Bool}
 use Rattle.ep_base.specs.Direct as plain
 use Rattle.link.specs.declared.direct.Direct.{Direct}

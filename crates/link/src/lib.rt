@@ -3,12 +3,16 @@
 
 mod carrying;
 mod direct;
+mod radio;
 mod transport;
 
 pub use block_reader::{Breach, LinkEnd, Phase};
 pub use carrying::carry;
 pub use direct::Direct;
+pub use radio::RfTransport;
 pub use transport::{PresentEnd, Presented, Transport};
 
+#[cfg(test)]
+mod radio_tests;
 #[cfg(test)]
 mod tests;

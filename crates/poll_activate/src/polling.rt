@@ -1,6 +1,7 @@
 //! Poll rounds over a medium.
-ghost use Rattle.std.specs.Prelude.{◌≡◌, ◌<◌, ◌↔◌, IsErr, IsErrOf};
+ghost use Rattle.std.specs.Prelude.{◌≡◌, ◌<◌, ◌↔◌, IsErr, IsErrOf, IfOk, IfSome};
 ghost use Rattle.arrayvec.specs.ArrayVec.{array_vec_len};
+ghost use Rattle.ep_base.specs.CardLimits.{AreLimits, EndsInLimits};
 ghost use Rattle.ep_base.specs.Causes.{HasCause};
 ghost use Rattle.ep_base.specs.Polling.{PlaysRound, PlaysRounds, card_in};
 ghost use Rattle.rf_frame.specs.Meaning.{round_end_of};
@@ -29,6 +30,7 @@ pub fn round<M: Medium>(medium: &mut M, fsdi: u8) -> Result<RoundEnd, RfFailed>
     requires { fsdi < 16 }
     ensures plays { PlaysRound M.steps fsdi (M.state medium.old) (ended result) (M.state medium.new) }
     ensures cause { HasCause (M.faults medium.old) (M.faults medium.new) (IsErr result) }
+    ensures limits { IfOk result (λ e. EndsInLimits (round_end_of e)) }
 {
     let mut poll = Poll::open(fsdi);
     'exchanges: loop {
@@ -60,6 +62,7 @@ pub fn poll<M: Medium>(medium: &mut M, fsdi: u8, rounds: &mut Rounds) -> Result<
     ensures plays { PlaysRounds M.steps fsdi 64 (M.state medium.old) (ends_of rounds.new.items) (polled_of result) (M.state medium.new) }
     ensures none { IsErrOf result PollEnd.NoCard ↔ AreAllWithoutCard (ends_of rounds.new.items) }
     ensures cause { HasCause (M.faults medium.old) (M.faults medium.new) (IsErrOf result PollEnd.Device) }
+    ensures limits { IfOk result (λ card. AreLimits card.fsc card.fwi) }
 {
     'each: while rounds.len() < 64 {
         let end = match round(medium, fsdi) {

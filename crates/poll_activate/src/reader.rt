@@ -1,9 +1,10 @@
 //! A poll round, one frame at a time.
-ghost use Rattle.std.specs.Prelude.{◌≡◌, ◌<◌, IsSome, List, [], ◌∷◌, ◌++◌};
+ghost use Rattle.std.specs.Prelude.{◌≡◌, ◌<◌, IsSome, IfSome, List, [], ◌∷◌, ◌++◌};
+ghost use Rattle.ep_base.specs.CardLimits.{EndsInLimits};
 ghost use Rattle.std.specs.Option.{IsNone};
 ghost use Rattle.ep_base.specs.Hearing.{place_of, end_of, Hearing};
 ghost use Rattle.ep_base.specs.Round.{Waking as AtWaking, WakingB as AtWakingB, round_hears, round_after};
-ghost use Rattle.rf_frame.specs.Meaning.{heard_of, maybe_end};
+ghost use Rattle.rf_frame.specs.Meaning.{heard_of, maybe_end, round_end_of};
 ghost use Rattle.poll_activate.specs.Poll.{asked, asked_after, turn, StandsFor};
 
 use ep_base::Wave;
@@ -82,6 +83,7 @@ impl Poll {
         ensures fsdi { self.new.fsdi ≡ self.old.fsdi }
         ensures stage { self.new.stage ≡ place_of (round_hears (AtWakingB woke) (heard_of heard.now)) }
         ensures end { maybe_end result ≡ end_of (round_hears (AtWakingB woke) (heard_of heard.now)) }
+        ensures limits { IfSome result (λ e. EndsInLimits (round_end_of e)) }
     {
         if woke {
             if heard.is_silent() {
@@ -107,6 +109,7 @@ impl Poll {
         ensures fsdi { self.new.fsdi ≡ self.old.fsdi }
         ensures stage { self.new.stage ≡ place_of (turn self.old (heard_of heard.now)) }
         ensures end { maybe_end result ≡ end_of (turn self.old (heard_of heard.now)) }
+        ensures limits { IfSome result (λ e. EndsInLimits (round_end_of e)) }
     {
         match &mut self.step {
             Step::Waking => {
@@ -140,6 +143,7 @@ impl Poll {
         ensures fsdi { self.new.fsdi ≡ self.old.fsdi }
         ensures stage { self.new.stage ≡ place_of (turn self.old (heard_of heard.now)) }
         ensures end { maybe_end result ≡ end_of (turn self.old (heard_of heard.now)) }
+        ensures limits { IfSome result (λ e. EndsInLimits (round_end_of e)) }
         ensures going { IsNone result → IsSome self.new.stage }
         ensures stands { (answers : List Hearing) → StandsFor self.old answers →
             StandsFor self.new (answers ++ heard_of heard.now ∷ []) }

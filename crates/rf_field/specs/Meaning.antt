@@ -1,6 +1,6 @@
 -- What the fates of frames stand for in plain data (this project's own).
 use Rattle.std.specs.Prelude.{◌≤◌, List, [], ◌∷◌, ◌++◌, replicate}
-use Rattle.ep_base.specs.Air.{Leg, Passes, Loses, Bursts, Leaves, Passage}
+use Rattle.ep_base.specs.Air.{Leg, Passes, Loses, Bursts, Leaves, IsLeg, Passage}
 use Rattle.rf_field.specs.declared.fates.Way.{Way}
 use Rattle.rf_field.specs.declared.fates.Way.TheVariants as way
 use Rattle.rf_field.specs.declared.fates.Fate.{Fate}
@@ -32,7 +32,7 @@ abbrev pub passages : List FateRun → List Passage
 passages [] = []
 passages (run ∷ runs) = run_of run ++ passages runs
 
--- A run has at least one exchange.
+-- A run has at least one exchange, and its bursts have at most sixteen bits (this project's own).
 abbrev pub IsRun : FateRun → Type 0
 IsRun (Clean count) = 1 ≤ count
-IsRun (One fate) = Unit {0}
+IsRun (One fate) = IsLeg (leg_of fate.down) × IsLeg (leg_of fate.up)

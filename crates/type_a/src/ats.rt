@@ -1,6 +1,7 @@
 //! Answers to RATS.
-ghost use Rattle.std.specs.Prelude.{◌≡◌};
+ghost use Rattle.std.specs.Prelude.{◌≡◌, IfOk};
 ghost use Rattle.ep_base.specs.Activation.{ats};
+ghost use Rattle.ep_base.specs.CardLimits.{AreLimits};
 
 use ep_base::{Ats, AtsFault, bit, frame_size, waiting};
 
@@ -9,7 +10,8 @@ use ep_base::{Ats, AtsFault, bit, frame_size, waiting};
 /// comes before `Cut`.
 #[tactic(auto, unfolding(ep_base::specs::Activation::ats, ep_base::specs::FrameSize::frame_size))]
 pub fn parse_ats(payload: &[u8]) -> Result<Ats, AtsFault>
-    ensures { result ≡ ats payload.now }
+    ensures says { result ≡ ats payload.now }
+    ensures limits { IfOk result (λ a. AreLimits a.fsc a.fwi) }
 {
     if payload.len() == 0 || usize::from(payload[0]) != payload.len() {
         return Err(AtsFault::LengthWrong);

@@ -1,5 +1,6 @@
 //! The reader's side: anticollision, selection and RATS, one frame at a time.
-ghost use Rattle.std.specs.Prelude.{◌≡◌, ◌≤◌, ◌<◌, IsSome, length};
+ghost use Rattle.std.specs.Prelude.{◌≡◌, ◌≤◌, ◌<◌, IsSome, IfSome, length};
+ghost use Rattle.ep_base.specs.CardLimits.{EndsInLimits};
 ghost use Rattle.std.specs.Option.{IsNone};
 ghost use Rattle.ep_base.specs.Hearing.{place_of, end_of};
 ghost use Rattle.ep_base.specs.TypeA.{sel as sel_of, bcc as bcc_of, is_level as is_level_of, Woken};
@@ -108,6 +109,7 @@ impl AReader {
         ensures fsdi { self.new.fsdi ≡ self.old.fsdi }
         ensures stage { self.new.stage ≡ None }
         ensures end { maybe_end result ≡ Some (round_end_of end) }
+        ensures given { result ≡ Some end }
     {
         self.step = Step::Over;
         Some(end)
@@ -119,6 +121,7 @@ impl AReader {
         ensures fsdi { self.new.fsdi ≡ self.old.fsdi }
         ensures stage { self.new.stage ≡ place_of (said self.old.stage message.now) }
         ensures end { maybe_end result ≡ end_of (said self.old.stage message.now) }
+        ensures limits { IfSome result (λ e. EndsInLimits (round_end_of e)) }
     {
         if message.len() != 1 {
             return self.over(RoundEnd::Broken);
@@ -152,6 +155,7 @@ impl AReader {
         ensures fsdi { self.new.fsdi ≡ self.old.fsdi }
         ensures stage { self.new.stage ≡ place_of (said self.old.stage message.now) }
         ensures end { maybe_end result ≡ end_of (said self.old.stage message.now) }
+        ensures limits { IfSome result (λ e. EndsInLimits (round_end_of e)) }
     {
         match parse_ats(message) {
             Ok(ats) => {
@@ -173,6 +177,7 @@ impl AReader {
         ensures fsdi { self.new.fsdi ≡ self.old.fsdi }
         ensures stage { self.new.stage ≡ place_of (said self.old.stage message.now) }
         ensures end { maybe_end result ≡ end_of (said self.old.stage message.now) }
+        ensures limits { IfSome result (λ e. EndsInLimits (round_end_of e)) }
     {
         match self.step {
             Step::Woken => {
@@ -204,6 +209,7 @@ impl AReader {
         ensures fsdi { self.new.fsdi ≡ self.old.fsdi }
         ensures stage { self.new.stage ≡ place_of (turn self.old (heard_of heard.now)) }
         ensures end { maybe_end result ≡ end_of (turn self.old (heard_of heard.now)) }
+        ensures limits { IfSome result (λ e. EndsInLimits (round_end_of e)) }
         ensures going { IsNone result → IsSome self.new.stage }
     {
         let wave = match self.step {

@@ -1,4 +1,4 @@
-//! A reader against a card, and worked rows.
+//! A reader against a card, and frames by hand.
 ghost use Rattle.std.specs.Prelude.{IsSome, IsOk};
 ghost use Rattle.std.specs.Option.{IsNone};
 

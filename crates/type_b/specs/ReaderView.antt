@@ -1,5 +1,6 @@
 -- What a reader's fields mean (this project's own).
 use Rattle.std.specs.Prelude.{ℕ, ◌<◌, List}
+use Rattle.ep_base.specs.CardLimits.{AreLimits}
 use Rattle.type_b.specs.Reader.{ReaderState, Place, New, At, Over}
 use Rattle.type_b.specs.declared.reader.BReader.TheInside.{Inside}
 use Rattle.type_b.specs.declared.reader.Step.{Step}
@@ -15,6 +16,6 @@ place_by steps.Over pupi fsc fwi = Over
 abbrev pub reader_state : Inside → ReaderState
 reader_state r = record { fsdi = r.fsdi; place = place_by r.step r.pupi r.fsc r.fwi }
 
--- Its FSDI is within its bounds (this project's own).
+-- Its FSDI and what the ATQB said are within their bounds (this project's own).
 abbrev pub ReaderFits : Inside → Type 0
-ReaderFits r = r.fsdi < 16
+ReaderFits r = (r.fsdi < 16) × AreLimits r.fsc r.fwi

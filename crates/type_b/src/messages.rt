@@ -1,6 +1,7 @@
 //! ATQB and ATTRIB.
-ghost use Rattle.std.specs.Prelude.{◌≡◌, length};
+ghost use Rattle.std.specs.Prelude.{◌≡◌, length, IfOk};
 ghost use Rattle.ep_base.specs.Activation.{atqb};
+ghost use Rattle.ep_base.specs.CardLimits.{AreLimits};
 ghost use Rattle.ep_base.specs.TypeB.{attrib_of};
 
 use ep_base::{Atqb, AtqbFault, Buf, bit, frame_size, waiting};
@@ -9,7 +10,8 @@ use ep_base::{Atqb, AtqbFault, Buf, bit, frame_size, waiting};
 /// comes before `NotAtqb`.
 #[tactic(auto, unfolding(ep_base::specs::Activation::atqb))]
 pub fn parse_atqb(payload: &[u8]) -> Result<Atqb, AtqbFault>
-    ensures { result ≡ atqb payload.now }
+    ensures says { result ≡ atqb payload.now }
+    ensures limits { IfOk result (λ a. AreLimits a.fsc a.fwi) }
 {
     if payload.len() != 12 {
         return Err(AtqbFault::LengthWrong);

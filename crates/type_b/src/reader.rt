@@ -1,5 +1,6 @@
 //! The reader's side: ATQB and ATTRIB.
-ghost use Rattle.std.specs.Prelude.{◌≡◌, ◌<◌, IsSome, None};
+ghost use Rattle.std.specs.Prelude.{◌≡◌, ◌<◌, IsSome, IfSome, None};
+ghost use Rattle.ep_base.specs.CardLimits.{EndsInLimits};
 ghost use Rattle.std.specs.Option.{IsNone};
 ghost use Rattle.ep_base.specs.Hearing.{place_of, end_of};
 ghost use Rattle.ep_base.specs.TypeB.{b_found};
@@ -63,6 +64,7 @@ impl BReader {
         ensures fsdi { self.new.fsdi ≡ self.old.fsdi }
         ensures place { self.new.place ≡ place_at None }
         ensures end { maybe_end result ≡ Some (round_end_of end) }
+        ensures given { result ≡ Some end }
     {
         self.step = Step::Over;
         Some(end)
@@ -76,6 +78,7 @@ impl BReader {
         ensures fsdi { self.new.fsdi ≡ self.old.fsdi }
         ensures place { self.new.place ≡ place_at (place_of (b_found (heard_of heard.now))) }
         ensures end { maybe_end result ≡ end_of (b_found (heard_of heard.now)) }
+        ensures limits { IfSome result (λ e. EndsInLimits (round_end_of e)) }
         ensures going { IsNone result → IsSome (stage_at self.new.place) }
     {
         match answer_in(Wave::B, heard) {
@@ -117,6 +120,7 @@ impl BReader {
         ensures fsdi { self.new.fsdi ≡ self.old.fsdi }
         ensures place { self.new.place ≡ place_at (place_of (turn self.old (heard_of heard.now))) }
         ensures end { maybe_end result ≡ end_of (turn self.old (heard_of heard.now)) }
+        ensures limits { IfSome result (λ e. EndsInLimits (round_end_of e)) }
         ensures ends { IsSome result }
     {
         match answer_in(Wave::B, heard) {

@@ -1,4 +1,4 @@
-use Rattle.std.proofs.Common.{◌≡◌, refl}
+use Rattle.std.proofs.Common.{refl}
 use Rattle.block_reader.specs.Stands.{held}
 use Rattle.block_reader.proofs.Standing.{begins, begun}
 use Rattle.block_reader.proofs.reader_end.ReaderEnd.begin.Goals as goal

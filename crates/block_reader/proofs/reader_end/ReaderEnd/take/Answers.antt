@@ -1,12 +1,11 @@
-use Rattle.std.proofs.Common.{◌≡◌, true, List, ◌∷◌, [], ◌++◌, refl, sym, ap, ◌∙◌, arith}
+use Rattle.std.proofs.Common.{◌∷◌, [], ◌++◌, refl, ap, ◌∙◌}
 use Rattle.ep_base.specs.Hearing.{Hearing}
 use Rattle.ep_base.specs.Block.{Heard}
-use Rattle.ep_base.specs.ReaderEnd.{Reader, reader_hears}
+use Rattle.ep_base.specs.ReaderEnd.{reader_hears}
 use Rattle.ep_base.specs.LinkFrames.{Kept, heard_block}
 use Rattle.ep_base.specs.LinkEvents.{exchange_of}
 use Rattle.rf_frame.specs.Meaning.{heard_of}
-use Rattle.block_reader.specs.Counts.{Counted, is_open}
-use Rattle.block_reader.specs.Progress.{Course, course, StepShows}
+use Rattle.block_reader.specs.Progress.{course, StepShows}
 use Rattle.block_reader.specs.Said.{said_of}
 use Rattle.block_reader.specs.Stands.{Held, held}
 use Rattle.block_reader.specs.declared.stages.Step.TheVariants as step
