@@ -1,4 +1,4 @@
--- What a round's end tells of the linked card.
+-- What a round's end tells of the linked card (this project's own).
 use Rattle.std.specs.Prelude.{◌≡◌, ℕ, ◌<◌, true, List, [], ◌∷◌, Some}
 use Rattle.ep_base.specs.FrameSize.{frame_size}
 use Rattle.ep_base.specs.Activation.{waiting}
