@@ -14,7 +14,7 @@ pub data Arrival (w : Wave) (b : List ℕ) : Option (List ℕ) → Type 0 where
   Whole : Arrival w b (Some b)
   Damaged : (x : List ℕ) → opened w x ≡ None → Arrival w b (Some x)
 
-after_hit : (w : Wave) (start mask : ℕ) (b : List ℕ) → HasCheck w → mask < 2 ^ 16 → is_good w b ≡ true → hits w start mask b ≡ true
+pub after_hit : (w : Wave) (start mask : ℕ) (b : List ℕ) → HasCheck w → mask < 2 ^ 16 → is_good w b ≡ true → hits w start mask b ≡ true
     → opened w (after_burst w start mask b) ≡ None
 after_hit w start mask b k m g h =
     ap (λ t. if t then Some (without_check w (after_burst w start mask b)) else None) (burst_law w start mask b k m g h)

@@ -72,7 +72,7 @@ keeps_mute : (p : APlan) (s : AState) (o : Option (List ℕ)) → NotOpen s → 
 keeps_mute p s None h = refl
 keeps_mute p s (Some m) h = keeps_b p s m h
 
-stays_mute : (p : APlan) (s : AState) (bytes : List ℕ) → NotOpen s → a_card p s B bytes ≡ (s, Mute)
+pub stays_mute : (p : APlan) (s : AState) (bytes : List ℕ) → NotOpen s → a_card p s B bytes ≡ (s, Mute)
 stays_mute p Idle bytes h = keeps_mute p Idle (opened B bytes) h
 stays_mute p Halted bytes h = keeps_mute p Halted (opened B bytes) h
 stays_mute p Protocol bytes h = absurd h
@@ -145,7 +145,7 @@ other_mute : (p : BPlan) (s : BState) (wave : Wave) (o : Option (List ℕ)) → 
 other_mute p s wave None h = refl
 other_mute p s wave (Some m) h = other_wave p s wave m h
 
-away_mute : (p : BPlan) (s : BState) (wave : Wave) (bytes : List ℕ) → same_wave wave B ≡ false → NotOpenB s → b_card p s wave bytes ≡ (s, Mute)
+pub away_mute : (p : BPlan) (s : BState) (wave : Wave) (bytes : List ℕ) → same_wave wave B ≡ false → NotOpenB s → b_card p s wave bytes ≡ (s, Mute)
 away_mute p BIdle wave bytes h o = other_mute p BIdle wave (opened wave bytes) h
 away_mute p BReady wave bytes h o = other_mute p BReady wave (opened wave bytes) h
 away_mute p BProtocol wave bytes h o = absurd o
@@ -153,7 +153,7 @@ away_mute p BProtocol wave bytes h o = absurd o
 does_away : (fsdi : ℕ) (stage : Stage) (p : BPlan) (s : BState) (wave : Wave) (bytes : List ℕ) → same_wave wave B ≡ false → NotOpenB s → DoesB fsdi stage (b_card p s wave bytes)
 does_away fsdi stage p s wave bytes h o = subst (λ x. DoesB fsdi stage x) (sym (away_mute p s wave bytes h o)) (not_inside_b s o)
 
-wakes_up_b : (p : BPlan) (s : BState) → NotOpenB s → b_card p s B (sealed B wupb) ≡ (BReady, Sends (framed B (atqb_of p)))
+pub wakes_up_b : (p : BPlan) (s : BState) → NotOpenB s → b_card p s B (sealed B wupb) ≡ (BReady, Sends (framed B (atqb_of p)))
 unfolding b_takes
 wakes_up_b p BIdle o = ap (λ x. b_opened p BIdle B x) (opened_sealed B wupb (omega arith))
 wakes_up_b p BReady o = ap (λ x. b_opened p BReady B x) (opened_sealed B wupb (omega arith))

@@ -103,8 +103,8 @@ AnyInside [] = ⊥
 AnyInside (p ∷ ps) = (is_inside p.outside ≡ true) ⊎ AnyInside ps
 
 -- what a card did with a frame of a round
-record Heeds (fsdi : ℕ) (last : Bool) (turn : Turn Stage) (p : Placed) (t : Told) : Type 0 where
-  executed : t.executed ≡ []
+pub record Heeds (fsdi : ℕ) (last : Bool) (turn : Turn Stage) (p : Placed) (t : Told) : Type 0 where
+  pub executed : t.executed ≡ []
   fits : CardFits fsdi turn t.card
   answer : last ≡ true → (t.answer ≡ None) ⊎ (is_inside t.card.outside ≡ true)
   plan : outside_reset t.card.outside ≡ outside_reset p.outside
@@ -157,7 +157,7 @@ module _ (fsdi : ℕ) (stage : Stage) where
   abbrev bytes : List ℕ
   bytes = (round_asks fsdi stage).bytes
 
-  by_present : (heard : Hearing) (room : ℕ) (log : List (ℕ × List ℕ)) (p : Placed) (present : Bool) → p.present ≡ present → nat_lt (length log) room ≡ true
+  pub by_present : (heard : Hearing) (room : ℕ) (log : List (ℕ × List ℕ)) (p : Placed) (present : Bool) → p.present ≡ present → nat_lt (length log) room ≡ true
       → IsFormed p.outside → CardFits fsdi (Goes stage) p → Heeds fsdi (is_last stage) (round_hears stage heard) p (one_hears room wave bytes log p)
   by_present heard room log p true here free f h =
       let hears : (p.present && nat_lt (length log) room) ≡ true = rw (here, free) refl in

@@ -7,6 +7,7 @@ pub mod Doing
 pub mod Fitting
 pub mod Hearing
 pub mod Lawfulness
+pub mod Learning
 pub mod Linking
 pub mod Lone
 pub mod Muteness
@@ -20,3 +21,4 @@ pub mod Singling
 pub mod Sizing
 pub mod SoloA
 pub mod SoloB
+pub mod Telling

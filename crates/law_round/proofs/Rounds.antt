@@ -100,13 +100,13 @@ early_none (InB stage) heard l = cc
 
 -- ---- one exchange
 
-silent_back : (u : Leg) → comes_back u Silence ≡ Silence
+pub silent_back : (u : Leg) → comes_back u Silence ≡ Silence
 silent_back Passes = refl
 silent_back Loses = refl
 silent_back (Bursts start mask) = refl
 silent_back Leaves = refl
 
-good_frame : (fsdi : ℕ) (stage : Stage) → is_good (round_asks fsdi stage).wave (round_asks fsdi stage).bytes ≡ true
+pub good_frame : (fsdi : ℕ) (stage : Stage) → is_good (round_asks fsdi stage).wave (round_asks fsdi stage).bytes ≡ true
 good_frame fsdi Waking = refl
 good_frame fsdi Halting = ends_sealed A hlta (omega arith)
 good_frame fsdi (WakingB woke) = ends_sealed B wupb (omega arith)
@@ -226,16 +226,16 @@ module _ (fsdi : ℕ) (stage : Stage) where
   away_or true ps a = left_away ps
   away_or false ps a = a
 
-  abbrev taken : Field → Heard
+  abbrev pub taken : Field → Heard
   taken f = field_hears f (wave fsdi stage) (bytes fsdi stage)
 
-  abbrev sent : Field → Field
+  abbrev pub sent : Field → Field
   sent f = (field_send f (wave fsdi stage) (bytes fsdi stage)).1
 
-  abbrev heard : Field → Hearing
+  abbrev pub heard : Field → Hearing
   heard f = comes_back (next_fate f.air.fates).up (joined (taken f).answers)
 
-  by_gone : (f : Field) (gone : Bool) → Lawful f → Mode fsdi (Goes stage) gone f.cards
+  pub by_gone : (f : Field) (gone : Bool) → Lawful f → Mode fsdi (Goes stage) gone f.cards
       → Mode fsdi (round_hears stage (heard f)) (gone_by (gone_by gone (next_fate f.air.fates).down) (next_fate f.air.fates).up) (sent f).cards × Kept f (sent f)
   by_gone f false l m =
       let legs = next_legs f.air.fates l.fates in
@@ -389,7 +389,7 @@ module _ (fsdi : ℕ) where
       ap (λ x. record { plan = x; kind = q.party.kind; image = q.party.image } ∷ faces (all_reset gone presence (n + 1) ps)) (twice p.outside)
       ∙ ap (λ l. record { plan = outside_reset p.outside; kind = q.party.kind; image = q.party.image } ∷ l) (faces_reset gone presence (n + 1) ps)
 
-  reset_fits : (s : Field) → Lawful s → Fit fsdi (Goes Waking) (field_reset s)
+  pub reset_fits : (s : Field) → Lawful s → Fit fsdi (Goes Waking) (field_reset s)
   reset_fits s l = (lawful_reset s l, reset_mode s.air.gone s.presence 1 s.cards)
 
   pub first_sent : (s : Field) (well : Bool) (v : Field) (h : Option Hearing) (u : Field) → (told field).resets s well v → AfterReset (told field) well v (round_asks fsdi Waking) h u

@@ -84,7 +84,7 @@ ok_by : (r : Result Ats AtsFault) (a b c d : ℕ) → r ≡ Ok (record { fsc = a
 ok_by r a b c d e f g = e ∙ ap (λ n. Ok (record { fsc = n; fwi = b })) f ∙ ap (λ n. Ok (record { fsc = c; fwi = n })) g
 
 -- what a card's ATS says
-ats_read : (len fsci fwi : ℕ) (historical : List ℕ) → length historical ≡ len → fsci < 16
+pub ats_read : (len fsci fwi : ℕ) (historical : List ℕ) → length historical ≡ len → fsci < 16
     → ats ((3 + len) ∷ (0x20 + fsci) ∷ (16 * fwi) ∷ historical) ≡ Ok (record { fsc = frame_size fsci; fwi = waiting fwi })
 ats_read len fsci fwi historical e h =
     let bytes : List ℕ = (3 + len) ∷ (0x20 + fsci) ∷ (16 * fwi) ∷ historical in

@@ -3,6 +3,7 @@ pub mod Alone
 pub mod Ending
 pub mod Inside
 pub mod Lawful
+pub mod Learned
 pub mod Linked
 pub mod Muteness
 pub mod Once

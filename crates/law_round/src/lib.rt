@@ -8,6 +8,7 @@ ghost use Rattle.law_round.specs.Acting.{FieldActs, OpensWire, OthersStay};
 ghost use Rattle.law_round.specs.Alone.{OneCardA, OneCardB};
 ghost use Rattle.law_round.specs.Ending.{AlwaysPlays, EndsInEleven};
 ghost use Rattle.law_round.specs.Lawful.{BeginsLawful, StaysLawful};
+ghost use Rattle.law_round.specs.Learned.{FoundAsPlanned};
 ghost use Rattle.law_round.specs.Linked.{KeepsCards, LinksOne, OnlyFound};
 ghost use Rattle.law_round.specs.Muteness.{OthersMute};
 ghost use Rattle.law_round.specs.Once.{ClosesQuietly, LeavesOthers, OnceInField, StaysReady};
@@ -39,6 +40,14 @@ pub fn only_found()
 /// of the reader's frame size; all others are outside the block protocol; and the cards haven't left.
 pub fn links_one()
     ensures { LinksOne }
+{}
+
+/// When a round over a lawful field ends with a card, the frame size and the frame waiting time integer that it tells are
+/// those of the card in the block protocol.
+///
+/// Codes of frame sizes have four bits, and application data four bytes.
+pub fn found_as_planned()
+    ensures { FoundAsPlanned }
 {}
 
 /// A round over a lawful field ends. Nothing is executed in it, and of each card the plan and the image stay, in which no
