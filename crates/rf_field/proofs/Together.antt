@@ -1,8 +1,8 @@
 -- Answers one after another give what they give together.
-use Rattle.std.proofs.Common.{◌≡◌, Bool, true, false, ◌&&◌, if◌then◌else◌, List, [], ◌∷◌, refl, sym, ◌∙◌}
-use Rattle.ep_base.specs.Hearing.{Framed, Hearing, Silence, Overlap, Frame}
+use Rattle.std.proofs.Common.{◌≡◌, Bool, true, false, ◌&&◌, if◌then◌else◌, List, [], ◌∷◌, refl}
+use Rattle.ep_base.specs.Hearing.{Framed, Silence, Overlap, Frame}
 use Rattle.ep_base.specs.Field.{same_frame, all_same, joined}
-use Rattle.rf_field.specs.Airs.{also, with_answers}
+use Rattle.rf_field.specs.Airs.{with_answers}
 
 overlapped : (fs : List Framed) → with_answers Overlap fs ≡ Overlap
 overlapped [] = refl

@@ -1,6 +1,5 @@
 -- What is in the air while several cards answer one after another (this project's own).
-use Rattle.std.specs.Prelude.{ℕ, List, [], ◌∷◌, Option, Some, None, if◌then◌else◌}
-use Rattle.ep_base.specs.declared.air.Wave.{Wave}
+use Rattle.std.specs.Prelude.{List, [], ◌∷◌, Option, Some, None, if◌then◌else◌}
 use Rattle.ep_base.specs.Hearing.{Framed, Hearing, Silence, Noise, Overlap, Frame}
 use Rattle.ep_base.specs.Field.{same_frame}
 

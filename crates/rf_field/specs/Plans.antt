@@ -1,5 +1,4 @@
 -- What the cards of a field are made of, in plain data (this project's own).
-use Rattle.std.specs.Prelude.{ℕ, List, map}
 use Rattle.ep_base.specs.Field as plain
 use Rattle.type_a.specs.Plan as TypeA
 use Rattle.type_b.specs.Card as TypeB

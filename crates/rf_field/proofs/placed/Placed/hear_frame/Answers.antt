@@ -1,6 +1,6 @@
 use Rattle.std.proofs.Common.{◌≡◌, sym, ap, ◌∙◌, subst}
 use Rattle.ep_base.specs.Hearing.{CardReply}
-use Rattle.ep_base.specs.Field.{Placed, Outside, outside_after, outside_reply, by_reply, by_link, hears_frame}
+use Rattle.ep_base.specs.Field.{Placed, Outside, outside_after, by_reply, by_link, hears_frame}
 use Rattle.ep_base.specs.Wire.{takes_frame}
 use Rattle.rf_field.specs.Outsides.{outside_of}
 use Rattle.rf_field.specs.Cards.{placed_of}
