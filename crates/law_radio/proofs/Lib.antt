@@ -1,0 +1,5 @@
+pub mod Cards
+pub mod Kept
+pub mod Numbers
+pub mod Opening
+pub mod Playing

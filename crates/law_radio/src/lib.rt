@@ -1,0 +1,20 @@
+//! The law of a whole transaction over the radio, the contract of a function that does nothing: whatever becomes of the
+//! frames, it reports what the perfect channel gives, and the cards execute exactly its commands.
+//!
+//! The radio, its field and the perfect run are defined in `ep_base`; `specs/` states the law.
+#![tactic(auto)]
+
+ghost use Rattle.law_radio.specs.OverRadio.{OverRadio};
+
+/// A talk over the radio keeps to the perfect run for the ends that its rounds gave, for every list of fates and of
+/// presences.
+///
+/// Heard to its end, its events are those of the perfect run, and the cards executed exactly the commands of that run,
+/// each once and in order. Where a link fails, one wished command has no response: the events are those before it, and
+/// the cards executed the commands before it, and perhaps this one. No link's rules are broken, and no device fails.
+///
+/// The field is lawful and no two cards have the same number; the talk sends commands alone, and these to a card that was
+/// found and not closed; and the empty log has room for more records than the talk has commands.
+pub fn over_the_radio()
+    ensures { OverRadio }
+{}
