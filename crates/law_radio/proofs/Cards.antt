@@ -78,7 +78,7 @@ numbers_moved kind kind2 gone gone2 (suc n) (p ∷ ps) (q ∷ qs) a b e same =
     let rest : faces (without n qs) ≡ faces (without n ps) = ap (λ l. others l) e in
     ap (λ k. k ∷ numbers qs) head
     ∙ ap (λ ns. p.party.image.number ∷ ns) (numbers_moved kind kind2 gone gone2 n ps qs
-        (and_parts (is_out p.outside) (linked_at kind gone n ps) a).1 (and_parts (is_out q.outside) (linked_at kind2 gone2 n qs) b).1 rest same)
+    (and_parts (is_out p.outside) (linked_at kind gone n ps) a).1 (and_parts (is_out q.outside) (linked_at kind2 gone2 n qs) b).1 rest same)
 
 pub numbered_again : (number_of : Activated → ℕ) (ps qs : List Placed) → names qs ≡ names ps → numbers qs ≡ numbers ps → AreNumbered number_of ps → AreNumbered number_of qs
 numbered_again number_of ps [] e f x = tt
@@ -87,12 +87,11 @@ numbered_again number_of (p ∷ ps) (q ∷ qs) e f x =
     let name : name_in q.outside ≡ name_in p.outside = same_first (name_in q.outside) (name_in p.outside) (names qs) (names ps) e in
     let kind : kind_of q.outside ≡ kind_of p.outside = ap (λ (n : CardKind × List ℕ). n.0) name in
     let id : id_of q.outside ≡ id_of p.outside = ap (λ (n : CardKind × List ℕ). n.1) name in
-    let number : q.party.image.number ≡ p.party.image.number = same_first q.party.image.number p.party.image.number (numbers qs) (numbers ps) f in
-    (
+    let number : q.party.image.number ≡ p.party.image.number = same_first q.party.image.number p.party.image.number (numbers qs) (numbers ps) f in (
       λ card k i. x.0 card (k ∙ kind) (i ∙ id) ∙ sym number,
       numbered_again number_of ps qs
-      (same_others (name_in q.outside) (name_in p.outside) (names qs) (names ps) e)
-      (same_others q.party.image.number p.party.image.number (numbers qs) (numbers ps) f) x.1,
+          (same_others (name_in q.outside) (name_in p.outside) (names qs) (names ps) e)
+          (same_others q.party.image.number p.party.image.number (numbers qs) (numbers ps) f) x.1,
     )
 
 -- the number that is found is the one of the card
@@ -164,8 +163,7 @@ images_moved kind kind2 gone gone2 k a images (suc n) (p ∷ ps) (q ∷ qs) l m 
     let face : Face = record { plan = outside_reset p.outside; kind = p.party.kind; image = p.party.image } in
     let image : q.party.image ≡ p.party.image = ap (λ l. (first face l).image) e in
     let rest : faces (without n qs) ≡ faces (without n ps) = ap (λ l. others l) e in
-    let head : deselected (stored k a images p.party.image.number) ≡ deselected p.party.image = ap deselected (stored_other k a images p.party.image.number differs) ∙ x.0 in
-    (
+    let head : deselected (stored k a images p.party.image.number) ≡ deselected p.party.image = ap deselected (stored_other k a images p.party.image.number differs) ∙ x.0 in (
       subst (λ (i : Image). deselected (stored k a images i.number) ≡ deselected i) (sym image) head,
       images_moved kind kind2 gone gone2 k a images n ps qs lp lq rest here number is d.1 x.1,
     )
@@ -180,8 +178,7 @@ images_stay images kind kind2 gone gone2 zero (p ∷ ps) (q ∷ qs) l m e is x =
 images_stay images kind kind2 gone gone2 (suc n) (p ∷ ps) (q ∷ qs) l m e is x =
     let face : Face = record { plan = outside_reset p.outside; kind = p.party.kind; image = p.party.image } in
     let image : q.party.image ≡ p.party.image = ap (λ l. (first face l).image) e in
-    let rest : faces (without n qs) ≡ faces (without n ps) = ap (λ l. others l) e in
-    (
+    let rest : faces (without n qs) ≡ faces (without n ps) = ap (λ l. others l) e in (
       subst (λ (i : Image). deselected (images i.number) ≡ deselected i) (sym image) x.0,
       images_stay images kind kind2 gone gone2 n ps qs (and_parts (is_out p.outside) (linked_at kind gone n ps) l).1 (and_parts (is_out q.outside) (linked_at kind2 gone2 n qs) m).1 rest is x.1,
     )

@@ -3,3 +3,4 @@ pub mod Kept
 pub mod Numbers
 pub mod Opening
 pub mod Playing
+pub mod Purchases

@@ -37,7 +37,7 @@ use Rattle.law_round.proofs.Polling.{polls_quietly_law}
 use Rattle.law_round.proofs.Acting.{others_stay_law}
 use Rattle.law_round.proofs.Carrying.{once_in_field_law, leaves_others_law, stays_ready_law}
 use Rattle.law_round.proofs.Closing.{closes_quietly_law}
-use Rattle.law_radio.specs.OverRadio.{numbers, AreDistinct, AreNumbered, Opens, IsWhole, Keeps, OverRadio}
+use Rattle.law_radio.specs.OverRadio.{numbers, AreDistinct, AreNumbered, IsNew, IsCarried, IsWhole, Keeps, OverRadio}
 use Rattle.law_radio.proofs.Numbers.{number_stays}
 use Rattle.law_radio.proofs.Cards.{AllImages, names_polled, numbers_polled, numbers_moved, numbered_again, found_number, have_all, images_polled, images_presented, images_moved, images_stay, image_at, none_selected}
 use Rattle.law_radio.proofs.Kept.{Same, Kept, say_kept, poll_kept, close_kept, answer_kept}
@@ -350,8 +350,7 @@ module _ (number_of : Activated → ℕ) (later : List RoundEnd) where
         let kept : Kept (Command c next) (Response a ∷ rest) ((card_number, c) ∷ y.0) (executes card_number c (gave (Response a) (perfect one (next a) ends then_channel))) ending =
         answer_kept card_number c a next rest y.0 (perfect one (next a) ends then_channel) ending y.2 in
         let kept_so : Kept (Command c next) (Response a ∷ rest) ((card_number, c) ∷ y.0) (run_of c next ends ch card_number card_image) ending =
-        subst (λ z. Kept (Command c next) (Response a ∷ rest) ((card_number, c) ∷ y.0) (executes card_number c (gave (Response z) (perfect one (next z) ends then_channel))) ending) said kept in
-        (
+        subst (λ z. Kept (Command c next) (Response a ∷ rest) ((card_number, c) ∷ y.0) (executes card_number c (gave (Response z) (perfect one (next z) ends then_channel))) ending) said kept in (
           (card_number, c) ∷ y.0,
           y.1 ∙ (ap (λ (z : List (ℕ × List ℕ)). z ++ y.0) log ∙ append_assoc s.medium.log ((card_number, c) ∷ []) y.0),
           subst (λ p. Kept (Command c next) (Response a ∷ rest) ((card_number, c) ∷ y.0) p ending) (sym (run_is c next ends ch card_image (h.here x.sent))) kept_so,
@@ -423,22 +422,22 @@ module _ (number_of : Activated → ℕ) (later : List RoundEnd) where
   keeps talk heard log p AtBreach r = r
   keeps talk heard log p AtDevice r = r
 
-  over_radio : (images : ℕ → Image) (talk : Talk) (s u : Radio Field) (heard : List Result) (ending : HearEnd) → Opens number_of images talk s → Hears (radio (told field)) talk [] s heard ending u
+  over_radio : (images : ℕ → Image) (talk : Talk) (s u : Radio Field) (heard : List Result) (ending : HearEnd) → IsNew number_of images s → IsCarried talk s.medium.room → Hears (radio (told field)) talk [] s heard ending u
       → Keeps talk heard u.medium.log (perfect one talk (ends_of heard ++ later) (channel images)) ending
-  over_radio images talk s u heard ending x hears =
+  over_radio images talk s u heard ending x t hears =
       let ch : Channel Image = channel images in
       let size : length s.medium.log ≡ 0 = ap (λ (log : List (ℕ × List ℕ)). length log) x.empty in
-      let less : x.commands < s.medium.room = x.room in
-      let knows : Knows x.commands s.medium ch.images = record {
+      let less : t.commands < s.medium.room = t.free in
+      let knows : Knows t.commands s.medium ch.images = record {
         lawful = x.lawful;
         numbered = x.numbered;
         distinct = x.distinct;
         all = have_all images s.medium.cards x.have;
         room = omega (arith, size, less);
       } in
-      let r = plays talk false x.commands [] s u ch heard ending knows (subst (λ o. ByLink x.commands false [] s.medium ch o) (sym x.unlinked) tt) x.legal x.most hears in
+      let r = plays talk false t.commands [] s u ch heard ending knows (subst (λ o. ByLink t.commands false [] s.medium ch o) (sym x.unlinked) tt) t.legal t.most hears in
       let log : u.medium.log ≡ r.0 = r.1 ∙ ap (λ (l : List (ℕ × List ℕ)). l ++ r.0) x.empty in
       subst (λ l. Keeps talk heard l (perfect one talk (ends_of heard ++ later) ch) ending) (sym log) (keeps talk heard r.0 (perfect one talk (ends_of heard ++ later) ch) ending r.2)
 
 pub over_the_radio_law : OverRadio
-over_the_radio_law number_of images talk s u heard ending later opens hears = over_radio number_of later images talk s u heard ending opens hears
+over_the_radio_law number_of images talk s u heard ending later new carried hears = over_radio number_of later images talk s u heard ending new carried hears

@@ -1,1 +1,2 @@
 pub mod OverRadio
+pub mod Purchases

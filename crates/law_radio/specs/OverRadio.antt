@@ -42,19 +42,22 @@ abbrev pub HaveImages : (ℕ → Image) → List Placed → Type 0
 HaveImages images [] = Unit {0}
 HaveImages images (p ∷ ps) = (images p.party.image.number ≡ p.party.image) × HaveImages images ps
 
--- A radio before its first presentation, over a field of a document's cards with these images, for a talk that sends commands alone, and these to
--- a card that was found and not closed. Nothing is in the log, and it has room for more records than the talk has commands (this project's own).
-pub record Opens (number_of : Activated → ℕ) (images : ℕ → Image) (talk : Talk) (s : Radio Field) : Type 0 where
+-- A radio before its first presentation, over a field of a document's cards with these images. Nothing is in the log (this project's own).
+pub record IsNew (number_of : Activated → ℕ) (images : ℕ → Image) (s : Radio Field) : Type 0 where
   pub lawful : Lawful s.medium
   pub numbered : AreNumbered number_of s.medium.cards
   pub distinct : AreDistinct (numbers s.medium.cards)
   pub have : HaveImages images s.medium.cards
   pub unlinked : s.link ≡ None
   pub empty : s.medium.log ≡ []
+
+-- A talk that a log with this room carries: it sends commands alone, and these to a card that was found and not closed, and the log has room for
+-- more records than the talk has commands (this project's own).
+pub record IsCarried (talk : Talk) (room : ℕ) : Type 0 where
   pub legal : IsLegal is_command false talk
   pub commands : ℕ
   pub most : AtMost commands talk
-  pub room : commands < s.medium.room
+  pub free : commands < room
 
 -- A talk that was heard to its end, against the perfect run: its events are those of that run, and the cards executed exactly the commands of
 -- that run, each once and in order (this project's own).
@@ -75,5 +78,5 @@ Keeps talk heard log p AtDevice = ⊥
 abbrev pub OverRadio : Type 0
 OverRadio =
     (number_of : Activated → ℕ) (images : ℕ → Image) (talk : Talk) (s u : Radio Field) (heard : List Result) (ending : HearEnd) (later : List RoundEnd) →
-    Opens number_of images talk s → Hears (radio (told field)) talk [] s heard ending u →
+    IsNew number_of images s → IsCarried talk s.medium.room → Hears (radio (told field)) talk [] s heard ending u →
     Keeps talk heard u.medium.log (perfect (image_rules number_of) talk (ends_of heard ++ later) (channel images)) ending

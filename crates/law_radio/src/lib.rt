@@ -1,10 +1,22 @@
-//! The law of a whole transaction over the radio, the contract of a function that does nothing: whatever becomes of the
-//! frames, it reports what the perfect channel gives, and the cards execute exactly its commands.
+//! Laws of a whole transaction over the radio, each the contract of a function that does nothing: whatever becomes of
+//! the frames, it reports what the perfect channel gives, and the cards execute exactly its commands.
 //!
-//! The radio, its field and the perfect run are defined in `ep_base`; `specs/` states the law.
+//! The radio, its field and the perfect run are defined in `ep_base`; `specs/` states the laws.
 #![tactic(auto)]
 
+ghost use Rattle.ep_base.specs.Kernel.{KernelSteps};
+ghost use Rattle.ep_base.specs.Transport.{EventSteps};
 ghost use Rattle.law_radio.specs.OverRadio.{OverRadio};
+ghost use Rattle.law_radio.specs.Purchases.{RunsOverRadio, TransactionIsCarried};
+
+/// A taker of events, by what it is after each.
+pub trait Taker {
+    /// Its states.
+    ghost State: { Type 0 };
+
+    /// What an event that is taken, or cut, makes of it.
+    ghost steps: { EventSteps State };
+}
 
 /// A talk over the radio keeps to the perfect run for the ends that its rounds gave, for every list of fates and of
 /// presences.
@@ -17,4 +29,16 @@ ghost use Rattle.law_radio.specs.OverRadio.{OverRadio};
 /// found and not closed; and the empty log has room for more records than the talk has commands.
 pub fn over_the_radio()
     ensures { OverRadio }
+{}
+
+/// A transaction of Entry Point with kernels that send commands alone is such a talk, where the log has room for one
+/// record more than its bound. S has the states of the kernels.
+pub fn transaction_is_carried<S>()
+    ensures { (k : KernelSteps S) → TransactionIsCarried k }
+{}
+
+/// A run of such a talk over the radio that ended has told all of what was heard, which keeps to the perfect run, and no
+/// device fails.
+pub fn runs_over_the_radio<K: Taker>()
+    ensures { RunsOverRadio K.steps }
 {}
