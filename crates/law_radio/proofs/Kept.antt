@@ -13,15 +13,16 @@ pub record Same (talk : Talk) (heard : List Result) (log : List (ℕ × List ℕ
   pub executed : log ≡ p.commands
   pub over : (so_far talk heard).wish ≡ Nothing
 
-abbrev pub Kept : Talk → List Result → List (ℕ × List ℕ) → Perfect → HearEnd → Type 0
-Kept talk heard log p Whole = Same talk heard log p
-Kept talk heard log p AtLink = EndsInLink talk heard (said_for talk heard AtLink) log p
-Kept talk heard log p AtBreach = ⊥
-Kept talk heard log p AtDevice = ⊥
+-- Of a command that failed its link, Third is said.
+abbrev pub Kept : (List ℕ → Type 0) → Talk → List Result → List (ℕ × List ℕ) → Perfect → HearEnd → Type 0
+Kept Third talk heard log p Whole = Same talk heard log p
+Kept Third talk heard log p AtLink = (e : EndsInLink talk heard (said_for talk heard AtLink) log p) × Third e.command
+Kept Third talk heard log p AtBreach = ⊥
+Kept Third talk heard log p AtDevice = ⊥
 
-pub say_kept : (x : Told) (next : Talk) (heard : List Result) (log : List (ℕ × List ℕ)) (p : Perfect) (ending : HearEnd) → Kept next heard log p ending → Kept (Say x next) heard log p ending
-say_kept x next heard log p Whole r = record { results = r.results; executed = r.executed; over = r.over }
-say_kept x next heard log p AtLink r = record {
+pub say_kept : (Third : List ℕ → Type 0) (x : Told) (next : Talk) (heard : List Result) (log : List (ℕ × List ℕ)) (p : Perfect) (ending : HearEnd) → Kept Third next heard log p ending → Kept Third (Say x next) heard log p ending
+say_kept Third x next heard log p Whole r = record { results = r.results; executed = r.executed; over = r.over }
+say_kept Third x next heard log p AtLink (r, third) = (record {
   number = r.number;
   command = r.command;
   wished = r.wished;
@@ -35,14 +36,14 @@ say_kept x next heard log p AtLink r = record {
   perfect_executed = r.perfect_executed;
   all_earlier = r.all_earlier;
   executed = r.executed;
-}
-say_kept x next heard log p AtBreach r = r
-say_kept x next heard log p AtDevice r = r
+}, third)
+say_kept Third x next heard log p AtBreach r = r
+say_kept Third x next heard log p AtDevice r = r
 
-pub poll_kept : (x : RoundEnd) (next : RoundEnd → Talk) (heard : List Result) (log : List (ℕ × List ℕ)) (p : Perfect) (ending : HearEnd) → Kept (next x) heard log p ending
-    → Kept (Poll next) (Round x ∷ heard) log (gave (Round x) p) ending
-poll_kept x next heard log p Whole r = record { results = ap (λ (l : List Result). Round x ∷ l) r.results; executed = r.executed; over = r.over }
-poll_kept x next heard log p AtLink r = record {
+pub poll_kept : (Third : List ℕ → Type 0) (x : RoundEnd) (next : RoundEnd → Talk) (heard : List Result) (log : List (ℕ × List ℕ)) (p : Perfect) (ending : HearEnd) → Kept Third (next x) heard log p ending
+    → Kept Third (Poll next) (Round x ∷ heard) log (gave (Round x) p) ending
+poll_kept Third x next heard log p Whole r = record { results = ap (λ (l : List Result). Round x ∷ l) r.results; executed = r.executed; over = r.over }
+poll_kept Third x next heard log p AtLink (r, third) = (record {
   number = r.number;
   command = r.command;
   wished = r.wished;
@@ -56,13 +57,13 @@ poll_kept x next heard log p AtLink r = record {
   perfect_executed = r.perfect_executed;
   all_earlier = r.all_earlier;
   executed = r.executed;
-}
-poll_kept x next heard log p AtBreach r = r
-poll_kept x next heard log p AtDevice r = r
+}, third)
+poll_kept Third x next heard log p AtBreach r = r
+poll_kept Third x next heard log p AtDevice r = r
 
-pub close_kept : (next : Talk) (heard : List Result) (log : List (ℕ × List ℕ)) (p : Perfect) (ending : HearEnd) → Kept next heard log p ending → Kept (Close next) (Closed ∷ heard) log (gave Closed p) ending
-close_kept next heard log p Whole r = record { results = ap (λ (l : List Result). Closed ∷ l) r.results; executed = r.executed; over = r.over }
-close_kept next heard log p AtLink r = record {
+pub close_kept : (Third : List ℕ → Type 0) (next : Talk) (heard : List Result) (log : List (ℕ × List ℕ)) (p : Perfect) (ending : HearEnd) → Kept Third next heard log p ending → Kept Third (Close next) (Closed ∷ heard) log (gave Closed p) ending
+close_kept Third next heard log p Whole r = record { results = ap (λ (l : List Result). Closed ∷ l) r.results; executed = r.executed; over = r.over }
+close_kept Third next heard log p AtLink (r, third) = (record {
   number = r.number;
   command = r.command;
   wished = r.wished;
@@ -76,18 +77,18 @@ close_kept next heard log p AtLink r = record {
   perfect_executed = r.perfect_executed;
   all_earlier = r.all_earlier;
   executed = r.executed;
-}
-close_kept next heard log p AtBreach r = r
-close_kept next heard log p AtDevice r = r
+}, third)
+close_kept Third next heard log p AtBreach r = r
+close_kept Third next heard log p AtDevice r = r
 
-pub answer_kept : (n : ℕ) (c a : List ℕ) (next : List ℕ → Talk) (heard : List Result) (log : List (ℕ × List ℕ)) (p : Perfect) (ending : HearEnd) → Kept (next a) heard log p ending
-    → Kept (Command c next) (Response a ∷ heard) ((n, c) ∷ log) (executes n c (gave (Response a) p)) ending
-answer_kept n c a next heard log p Whole r = record {
+pub answer_kept : (Third : List ℕ → Type 0) (n : ℕ) (c a : List ℕ) (next : List ℕ → Talk) (heard : List Result) (log : List (ℕ × List ℕ)) (p : Perfect) (ending : HearEnd) → Kept Third (next a) heard log p ending
+    → Kept Third (Command c next) (Response a ∷ heard) ((n, c) ∷ log) (executes n c (gave (Response a) p)) ending
+answer_kept Third n c a next heard log p Whole r = record {
   results = ap (λ (l : List Result). Response a ∷ l) r.results;
   executed = ap (λ (l : List (ℕ × List ℕ)). (n, c) ∷ l) r.executed;
   over = r.over;
 }
-answer_kept n c a next heard log p AtLink r = record {
+answer_kept Third n c a next heard log p AtLink (r, third) = (record {
   number = r.number;
   command = r.command;
   wished = r.wished;
@@ -104,6 +105,6 @@ answer_kept n c a next heard log p AtLink r = record {
     | inl e ↦ inl (ap (λ (l : List (ℕ × List ℕ)). (n, c) ∷ l) e)
     | inr e ↦ inr (ap (λ (l : List (ℕ × List ℕ)). (n, c) ∷ l) e)
   ];
-}
-answer_kept n c a next heard log p AtBreach r = r
-answer_kept n c a next heard log p AtDevice r = r
+}, third)
+answer_kept Third n c a next heard log p AtBreach r = r
+answer_kept Third n c a next heard log p AtDevice r = r

@@ -4,3 +4,4 @@ pub mod Numbers
 pub mod Opening
 pub mod Playing
 pub mod Purchases
+pub mod Thirds

@@ -37,7 +37,7 @@ use Rattle.law_round.proofs.Polling.{polls_quietly_law}
 use Rattle.law_round.proofs.Acting.{others_stay_law}
 use Rattle.law_round.proofs.Carrying.{once_in_field_law, leaves_others_law, stays_ready_law}
 use Rattle.law_round.proofs.Closing.{closes_quietly_law}
-use Rattle.law_radio.specs.OverRadio.{numbers, AreDistinct, AreNumbered, IsNew, IsCarried, IsWhole, Keeps, OverRadio}
+use Rattle.law_radio.specs.OverRadio.{numbers, AreDistinct, AreNumbered, IsNew, IsCarried, IsWhole, AtThird, Keeps, OverRadio}
 use Rattle.law_radio.proofs.Numbers.{number_stays}
 use Rattle.law_radio.proofs.Cards.{AllImages, names_polled, numbers_polled, numbers_moved, numbered_again, found_number, have_all, images_polled, images_presented, images_moved, images_stay, image_at, none_selected}
 use Rattle.law_radio.proofs.Kept.{Same, Kept, say_kept, poll_kept, close_kept, answer_kept}
@@ -94,7 +94,7 @@ module _ (number_of : Activated → ℕ) (later : List RoundEnd) where
 
   abbrev Goal : Talk → HearEnd → Channel Image → Radio Field → Radio Field → List Result → Type 0
   Goal talk ending ch s u heard =
-      (log : List (ℕ × List ℕ)) × (u.medium.log ≡ s.medium.log ++ log) × Kept talk heard log (perfect one talk (ends_of heard ++ later) ch) ending
+      (log : List (ℕ × List ℕ)) × (u.medium.log ≡ s.medium.log ++ log) × Kept (AtThird u.medium) talk heard log (perfect one talk (ends_of heard ++ later) ch) ending
 
   -- each hearing of the talk is as its perfect run
   abbrev Plays : Talk → Type 0
@@ -104,7 +104,7 @@ module _ (number_of : Activated → ℕ) (later : List RoundEnd) where
 
   over_plays : (e : Ending) → Plays (Over e)
   over_plays e found m more s u ch heard ending knows link legal most is =
-      let same : Kept (Over e) [] [] nothing Whole = record { results = refl; executed = refl; over = refl } in
+      let same : Kept (AtThird u.medium) (Over e) [] [] nothing Whole = record { results = refl; executed = refl; over = refl } in
       let start : Goal (Over e) Whole ch s s [] = ([], sym (append-nil s.medium.log), same) in
       subst (λ h. Goal (Over e) ending ch s u h) (sym is.0)
       (subst (λ x. Goal (Over e) x ch s u []) (sym is.1) (subst (λ v. Goal (Over e) Whole ch s v []) (sym is.2) start))
@@ -112,7 +112,7 @@ module _ (number_of : Activated → ℕ) (later : List RoundEnd) where
   say_plays : (x : Told) (next : Talk) → Plays next → Plays (Say x next)
   say_plays x next again found m more s u ch heard ending knows link legal most hears =
       let r = again found m more s u ch heard ending knows link legal most hears in
-      (r.0, r.1, say_kept x next heard r.0 (perfect one next (ends_of heard ++ later) ch) ending r.2)
+      (r.0, r.1, say_kept (AtThird u.medium) x next heard r.0 (perfect one next (ends_of heard ++ later) ch) ending r.2)
 
   -- ---- presentations
 
@@ -144,7 +144,7 @@ module _ (number_of : Activated → ℕ) (later : List RoundEnd) where
       → Goal (next x) ending (presents one ch x) v u rest → Goal (Poll next) ending ch s u heard
   polled_goal next x ending s v u ch heard rest log is r =
       let g : Goal (Poll next) ending ch s u (Round x ∷ rest) =
-      (r.0, r.1 ∙ ap (λ (l : List (ℕ × List ℕ)). l ++ r.0) log, poll_kept x next rest r.0 (perfect one (next x) (ends_of rest ++ later) (presents one ch x)) ending r.2) in
+      (r.0, r.1 ∙ ap (λ (l : List (ℕ × List ℕ)). l ++ r.0) log, poll_kept (AtThird u.medium) x next rest r.0 (perfect one (next x) (ends_of rest ++ later) (presents one ch x)) ending r.2) in
       subst (λ h. Goal (Poll next) ending ch s u h) (sym is) g
 
   -- a card that came, and how the channel has it
@@ -243,7 +243,7 @@ module _ (number_of : Activated → ℕ) (later : List RoundEnd) where
       } in
       let r = again false m more v u c h.0 ending kv (subst (λ o. ByLink m false more v.medium c o) (sym is.2.links) tt) legal most h.2 in
       let g : Goal (Close next) ending ch s u (Closed ∷ h.0) =
-      (r.0, r.1 ∙ ap (λ (x : List (ℕ × List ℕ)). x ++ r.0) quiet.0, close_kept next h.0 r.0 (perfect one next (ends_of h.0 ++ later) c) ending r.2) in
+      (r.0, r.1 ∙ ap (λ (x : List (ℕ × List ℕ)). x ++ r.0) quiet.0, close_kept (AtThird u.medium) next h.0 r.0 (perfect one next (ends_of h.0 ++ later) c) ending r.2) in
       subst (λ x. Goal (Close next) ending ch s u x) (sym h.1) g
 
   close_plays : (next : Talk) → Plays next → Plays (Close next)
@@ -347,20 +347,20 @@ module _ (number_of : Activated → ℕ) (later : List RoundEnd) where
         let short : length a ≤ 258 = subst (λ (y : List ℕ). length y ≤ 258) (sym said) fits in
         let y = again a found (m - 1) more v u then_channel rest ending kv (subst (λ p. ByLink (m - 1) found more v.medium then_channel p) (sym is.2.links) has) (x.legal a) (x.most a short) hears in
         let ends = ends_of rest ++ later in
-        let kept : Kept (Command c next) (Response a ∷ rest) ((card_number, c) ∷ y.0) (executes card_number c (gave (Response a) (perfect one (next a) ends then_channel))) ending =
-        answer_kept card_number c a next rest y.0 (perfect one (next a) ends then_channel) ending y.2 in
-        let kept_so : Kept (Command c next) (Response a ∷ rest) ((card_number, c) ∷ y.0) (run_of c next ends ch card_number card_image) ending =
-        subst (λ z. Kept (Command c next) (Response a ∷ rest) ((card_number, c) ∷ y.0) (executes card_number c (gave (Response z) (perfect one (next z) ends then_channel))) ending) said kept in (
+        let kept : Kept (AtThird u.medium) (Command c next) (Response a ∷ rest) ((card_number, c) ∷ y.0) (executes card_number c (gave (Response a) (perfect one (next a) ends then_channel))) ending =
+        answer_kept (AtThird u.medium) card_number c a next rest y.0 (perfect one (next a) ends then_channel) ending y.2 in
+        let kept_so : Kept (AtThird u.medium) (Command c next) (Response a ∷ rest) ((card_number, c) ∷ y.0) (run_of c next ends ch card_number card_image) ending =
+        subst (λ z. Kept (AtThird u.medium) (Command c next) (Response a ∷ rest) ((card_number, c) ∷ y.0) (executes card_number c (gave (Response z) (perfect one (next z) ends then_channel))) ending) said kept in (
           (card_number, c) ∷ y.0,
           y.1 ∙ (ap (λ (z : List (ℕ × List ℕ)). z ++ y.0) log ∙ append_assoc s.medium.log ((card_number, c) ∷ []) y.0),
-          subst (λ p. Kept (Command c next) (Response a ∷ rest) ((card_number, c) ∷ y.0) p ending) (sym (run_is c next ends ch card_image (h.here x.sent))) kept_so,
+          subst (λ p. Kept (AtThird u.medium) (Command c next) (Response a ∷ rest) ((card_number, c) ∷ y.0) p ending) (sym (run_is c next ends ch card_image (h.here x.sent))) kept_so,
         )
 
     abbrev then_run : Perfect
     then_run = perfect one (next response) later then_channel
 
-    ends_here : (log : List (ℕ × List ℕ)) → (log ≡ []) ⊎ (log ≡ (card_number, c) ∷ []) → Kept (Command c next) [] log (run_of c next later ch card_number card_image) AtLink
-    ends_here log executed = record {
+    ends_here : (log : List (ℕ × List ℕ)) → (log ≡ []) ⊎ (log ≡ (card_number, c) ∷ []) → AtThird v.medium c → Kept (AtThird v.medium) (Command c next) [] log (run_of c next later ch card_number card_image) AtLink
+    ends_here log executed third = (record {
       number = card_number;
       command = c;
       wished = refl;
@@ -374,17 +374,19 @@ module _ (number_of : Activated → ℕ) (later : List RoundEnd) where
       perfect_executed = refl;
       all_earlier = refl;
       executed = executed;
-    }
+    }, third)
 
-    spent_here : (log : List (ℕ × List ℕ)) → (log ≡ []) ⊎ (log ≡ (card_number, c) ∷ []) → v.medium.log ≡ s.medium.log ++ log → Goal (Command c next) AtLink ch s v []
-    spent_here log executed is =
-        (log, is, subst (λ p. Kept (Command c next) [] log p AtLink) (sym (run_is c next later ch card_image (h.here x.sent))) (ends_here log executed))
+    spent_here : (log : List (ℕ × List ℕ)) → (log ≡ []) ⊎ (log ≡ (card_number, c) ∷ []) → AtThird v.medium c → v.medium.log ≡ s.medium.log ++ log → Goal (Command c next) AtLink ch s v []
+    spent_here log executed third is =
+        (log, is, subst (λ p. Kept (AtThird v.medium) (Command c next) [] log p AtLink) (sym (run_is c next later ch card_image (h.here x.sent))) (ends_here log executed third))
 
     spent_goal : LinkTransacts (told field) l s c Spent v → Goal (Command c next) AtLink ch s v []
     spent_goal is =
-        elim (once (Spends is.0) is.1.hearings is.1.follows).0.1 [
-          | inl e ↦ spent_here [] (inl refl) (e ∙ sym (append-nil s.medium.log))
-          | inr e ↦ spent_here ((card_number, c) ∷ []) (inr refl) e
+        let o = (once (Spends is.0) is.1.hearings is.1.follows).0 in
+        let third : AtThird v.medium c = record { link = l; before = s.medium; reader = is.0; comes = is.1; third = o.0 } in
+        elim o.1 [
+          | inl e ↦ spent_here [] (inl refl) third (e ∙ sym (append-nil s.medium.log))
+          | inr e ↦ spent_here ((card_number, c) ∷ []) (inr refl) third e
         ]
 
   command_over : (c : List ℕ) (next : List ℕ → Talk) → Answers next → (found : Bool) (m : ℕ) (more : List RoundEnd) (s u v : Radio Field) (ch : Channel Image) (heard : List Result) (ending : HearEnd) (reply : Reply) (o : Option OpenLink)
@@ -412,18 +414,18 @@ module _ (number_of : Activated → ℕ) (later : List RoundEnd) where
   plays (Command c next) = command_plays c next (λ a. plays (next a))
   plays (Close next) = close_plays next (plays next)
 
-  keeps : (talk : Talk) (heard : List Result) (log : List (ℕ × List ℕ)) (p : Perfect) (ending : HearEnd) → Kept talk heard log p ending → Keeps talk heard log p ending
-  keeps talk heard log p Whole r = record {
+  keeps : (talk : Talk) (heard : List Result) (u : Field) (p : Perfect) (ending : HearEnd) → Kept (AtThird u) talk heard u.log p ending → Keeps talk heard u p ending
+  keeps talk heard u p Whole r = record {
     events = append-nil (so_far talk heard).events ∙ ap (λ (y : List Result). (so_far talk y).events) (sym r.results);
     executed = r.executed;
     over = r.over;
   }
-  keeps talk heard log p AtLink r = r
-  keeps talk heard log p AtBreach r = r
-  keeps talk heard log p AtDevice r = r
+  keeps talk heard u p AtLink r = r
+  keeps talk heard u p AtBreach r = r
+  keeps talk heard u p AtDevice r = r
 
   over_radio : (images : ℕ → Image) (talk : Talk) (s u : Radio Field) (heard : List Result) (ending : HearEnd) → IsNew number_of images s → IsCarried talk s.medium.room → Hears (radio (told field)) talk [] s heard ending u
-      → Keeps talk heard u.medium.log (perfect one talk (ends_of heard ++ later) (channel images)) ending
+      → Keeps talk heard u.medium (perfect one talk (ends_of heard ++ later) (channel images)) ending
   over_radio images talk s u heard ending x t hears =
       let ch : Channel Image = channel images in
       let size : length s.medium.log ≡ 0 = ap (λ (log : List (ℕ × List ℕ)). length log) x.empty in
@@ -437,7 +439,8 @@ module _ (number_of : Activated → ℕ) (later : List RoundEnd) where
       } in
       let r = plays talk false t.commands [] s u ch heard ending knows (subst (λ o. ByLink t.commands false [] s.medium ch o) (sym x.unlinked) tt) t.legal t.most hears in
       let log : u.medium.log ≡ r.0 = r.1 ∙ ap (λ (l : List (ℕ × List ℕ)). l ++ r.0) x.empty in
-      subst (λ l. Keeps talk heard l (perfect one talk (ends_of heard ++ later) ch) ending) (sym log) (keeps talk heard r.0 (perfect one talk (ends_of heard ++ later) ch) ending r.2)
+      let p = perfect one talk (ends_of heard ++ later) ch in
+      keeps talk heard u.medium p ending (subst (λ l. Kept (AtThird u.medium) talk heard l p ending) (sym log) r.2)
 
 pub over_the_radio_law : OverRadio
 over_the_radio_law number_of images talk s u heard ending later new carried hears = over_radio number_of later images talk s u heard ending new carried hears

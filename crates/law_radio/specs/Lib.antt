@@ -1,2 +1,3 @@
 pub mod OverRadio
 pub mod Purchases
+pub mod Thirds

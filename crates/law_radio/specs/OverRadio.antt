@@ -5,7 +5,9 @@ use Rattle.ep_base.specs.Apdu.{is_command}
 use Rattle.ep_base.specs.CardAnswer.{Image}
 use Rattle.ep_base.specs.Medium.{told}
 use Rattle.ep_base.specs.Field.{Placed, Field, field}
-use Rattle.ep_base.specs.Radio.{Radio, radio}
+use Rattle.ep_base.specs.Block.{is_bad, count}
+use Rattle.ep_base.specs.ReaderEnd.{Reader, Spends}
+use Rattle.ep_base.specs.Radio.{OpenLink, Radio, Comes, radio}
 use Rattle.ep_base.specs.Talk.{Talk, Result, Nothing, so_far, IsLegal}
 use Rattle.ep_base.specs.TransportRun.{HearEnd, Whole, AtLink, AtBreach, AtDevice, Hears, said_for}
 use Rattle.ep_base.specs.Course.{ends_of}
@@ -66,12 +68,21 @@ pub record IsWhole (talk : Talk) (heard : List Result) (log : List (ℕ × List 
   pub executed : log ≡ p.commands
   pub over : (so_far talk heard).wish ≡ Nothing
 
--- By what ended the hearing: it came to its end, or a link failed, and nothing else comes (this project's own).
-abbrev pub Keeps : Talk → List Result → List (ℕ × List ℕ) → Perfect → HearEnd → Type 0
-Keeps talk heard log p Whole = IsWhole talk heard log p
-Keeps talk heard log p AtLink = EndsInLink talk heard (said_for talk heard AtLink) log p
-Keeps talk heard log p AtBreach = ⊥
-Keeps talk heard log p AtDevice = ⊥
+-- A command over an open link of the field came to this field, and its last hearing was the third bad one since the reader's last toggle, or since
+-- the link was opened (this project's profile).
+pub record AtThird (u : Field) (command : List ℕ) : Type 0 where
+  pub link : OpenLink
+  pub before : Field
+  pub reader : Reader
+  pub comes : Comes (told field) link command before (Spends reader) u
+  pub third : count is_bad reader.since ≡ 3
+
+-- By what ended the hearing: it came to its end, or a link failed at a command's third bad hearing, and nothing else comes (this project's own).
+abbrev pub Keeps : Talk → List Result → Field → Perfect → HearEnd → Type 0
+Keeps talk heard u p Whole = IsWhole talk heard u.log p
+Keeps talk heard u p AtLink = (e : EndsInLink talk heard (said_for talk heard AtLink) u.log p) × AtThird u e.command
+Keeps talk heard u p AtBreach = ⊥
+Keeps talk heard u p AtDevice = ⊥
 
 -- Whatever becomes of the frames, and whichever cards are present in each round: what a talk over the radio hears and what the cards execute is
 -- as in the perfect run for the ends of its rounds, and whatever ends come later (this project's own).
@@ -79,4 +90,4 @@ abbrev pub OverRadio : Type 0
 OverRadio =
     (number_of : Activated → ℕ) (images : ℕ → Image) (talk : Talk) (s u : Radio Field) (heard : List Result) (ending : HearEnd) (later : List RoundEnd) →
     IsNew number_of images s → IsCarried talk s.medium.room → Hears (radio (told field)) talk [] s heard ending u →
-    Keeps talk heard u.medium.log (perfect (image_rules number_of) talk (ends_of heard ++ later) (channel images)) ending
+    Keeps talk heard u.medium (perfect (image_rules number_of) talk (ends_of heard ++ later) (channel images)) ending

@@ -37,7 +37,7 @@ pub record ToldAll {E : Type 0} (events : EventSteps E) (number_of : Activated �
   pub taken : left.taken ≡ all_taken events.take e (said_for talk heard ending)
   pub says : Says ending last
   pub keeps : (later : List RoundEnd) →
-      Keeps talk heard left.transport.medium.log (perfect (image_rules number_of) talk (ends_of heard ++ later) (channel images)) ending
+      Keeps talk heard left.transport.medium (perfect (image_rules number_of) talk (ends_of heard ++ later) (channel images)) ending
 
 -- A run over the radio that ended has told all of a hearing that keeps to the perfect run, and no device fails (this project's own).
 abbrev pub RunsOverRadio : {E : Type 0} → EventSteps E → Type 0

@@ -5,9 +5,11 @@
 #![tactic(auto)]
 
 ghost use Rattle.ep_base.specs.Kernel.{KernelSteps};
+ghost use Rattle.ep_base.specs.Medium.{MediumSteps};
 ghost use Rattle.ep_base.specs.Transport.{EventSteps};
 ghost use Rattle.law_radio.specs.OverRadio.{OverRadio};
 ghost use Rattle.law_radio.specs.Purchases.{RunsOverRadio, TransactionIsCarried};
+ghost use Rattle.law_radio.specs.Thirds.{SpentAtThird};
 
 /// A taker of events, by what it is after each.
 pub trait Taker {
@@ -18,12 +20,22 @@ pub trait Taker {
     ghost steps: { EventSteps State };
 }
 
+/// A medium, by the answers that it may give in each state.
+pub trait Medium {
+    /// Its states.
+    ghost State: { Type 0 };
+
+    /// Its answers.
+    ghost steps: { MediumSteps State };
+}
+
 /// A talk over the radio keeps to the perfect run for the ends that its rounds gave, for every list of fates and of
 /// presences.
 ///
 /// Heard to its end, its events are those of the perfect run, and the cards executed exactly the commands of that run,
 /// each once and in order. Where a link fails, one wished command has no response: the events are those before it, and
-/// the cards executed the commands before it, and perhaps this one. No link's rules are broken, and no device fails.
+/// the cards executed the commands before it, and perhaps this one; and its last hearing was the third bad one since the
+/// reader's last toggle. No link's rules are broken, and no device fails.
 ///
 /// The field is lawful and no two cards have the same number; the talk sends commands alone, and these to a card that was
 /// found and not closed; and the empty log has room for more records than the talk has commands.
@@ -41,4 +53,10 @@ pub fn transaction_is_carried<S>()
 /// device fails.
 pub fn runs_over_the_radio<K: Taker>()
     ensures { RunsOverRadio K.steps }
+{}
+
+/// Over every medium a command loses its link exactly with the third bad hearing since the reader's last toggle, or since
+/// the link was opened.
+pub fn spent_at_third<M: Medium>()
+    ensures { SpentAtThird M.steps }
 {}
