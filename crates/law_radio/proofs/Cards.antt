@@ -1,5 +1,5 @@
 -- What a field knows of its cards by their numbers, through presentations, commands and closings.
-use Rattle.std.proofs.Common.{◌≡◌, ◌≢◌, ℕ, zero, suc, Bool, true, false, ◌&&◌, List, [], ◌∷◌, ◌++◌, refl, sym, ap, ◌∙◌, subst}
+use Rattle.std.proofs.Common.{◌≡◌, ◌≢◌, ℕ, zero, suc, Bool, true, List, [], ◌∷◌, ◌++◌, refl, sym, ap, ◌∙◌, subst}
 use Rattle.std.proofs.lemmas.Bool.{and_parts}
 use Rattle.ep_base.specs.declared.air.CardKind.{CardKind}
 use Rattle.ep_base.specs.Hearing.{Activated, RoundEnd, Empty, Collision, Unsupported, Broken, Found}
@@ -7,7 +7,6 @@ use Rattle.ep_base.specs.CardAnswer.{Image, deselected}
 use Rattle.ep_base.specs.Images.{stored}
 use Rattle.ep_base.specs.Direct.{image_rules}
 use Rattle.ep_base.specs.Perfect.{Channel, presents}
-use Rattle.ep_base.specs.Wire.{Party}
 use Rattle.ep_base.specs.Field.{Outside, OfA, OfB, outside_reset, Placed}
 use Rattle.law_round.specs.Inside.{is_out}
 use Rattle.law_round.specs.Lawful.{kind_of, id_of, names, Face, faces, reset_faces}

@@ -1,4 +1,5 @@
 pub mod Cards
+pub mod Finding
 pub mod Kept
 pub mod Numbers
 pub mod Opening

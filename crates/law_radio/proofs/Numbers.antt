@@ -1,6 +1,5 @@
 -- A card's image keeps its number.
-use Rattle.std.proofs.Common.{◌≡◌, ℕ, cond, true, false, List, refl, Option, Some, None, slice_get, position, nat_eq}
-use Rattle.std.specs.List.{starts_with}
+use Rattle.std.proofs.Common.{◌≡◌, ℕ, cond, true, false, List, refl, Option, Some, None, slice_get, position}
 use Rattle.ep_base.specs.Apdu.{same_bytes, command_data, ppse_name}
 use Rattle.ep_base.specs.CardAnswer.{Answered, App, Image, by_app, by_place, select_answer, ppse_answer, in_app, other_answer, is_select, card_answer}
 

@@ -1,5 +1,5 @@
 -- A talk over the radio, step by step, beside its perfect run.
-use Rattle.std.proofs.Common.{◌≡◌, ◌⊎◌, inl, inr, ℕ, zero, suc, ◌+◌, ◌-◌, ◌<◌, ◌≤◌, ◌&&◌, Bool, true, false, List, [], ◌∷◌, ◌++◌, length, replicate, refl, sym, ap, subst, ◌∙◌, append_assoc, append-nil, arith, length-append, Some, None, Option}
+use Rattle.std.proofs.Common.{◌≡◌, ◌⊎◌, inl, inr, ℕ, ◌+◌, ◌-◌, ◌<◌, ◌≤◌, Bool, true, false, List, [], ◌∷◌, ◌++◌, length, replicate, refl, sym, ap, subst, ◌∙◌, append_assoc, append-nil, arith, length-append, Some, None, Option}
 use Rattle.std.proofs.lemmas.Bool.{and_parts}
 use Rattle.ep_base.specs.declared.air.CardKind.{CardKind}
 use Rattle.ep_base.specs.Hearing.{Activated, Hearing, RoundEnd, Empty, Collision, Unsupported, Broken, Found, wave_of_kind}
@@ -13,7 +13,7 @@ use Rattle.ep_base.specs.CardAnswer.{Image, card_answer, deselected}
 use Rattle.ep_base.specs.Medium.{told}
 use Rattle.ep_base.specs.Polling as polling
 use Rattle.ep_base.specs.Polling.{PlaysRounds, Polled, Came, Device}
-use Rattle.ep_base.specs.ReaderEnd.{Reader, Turn, Asks, Gives, Spends, Breaks, asked, begin}
+use Rattle.ep_base.specs.ReaderEnd.{Reader, Turn, Gives, Spends, Breaks, asked, begin}
 use Rattle.ep_base.specs.Dialogue.{opened}
 use Rattle.ep_base.specs.LinkFrames.{LinkSetting}
 use Rattle.ep_base.specs.Carry.{SendsBlock, Follows, AtRest, OfLink, OnceSo}
@@ -26,22 +26,21 @@ use Rattle.ep_base.specs.Images.{Rules, stored}
 use Rattle.ep_base.specs.Direct.{image_rules}
 use Rattle.ep_base.specs.Perfect.{Channel, Perfect, channel, presents, perfect, at_command, gave, executes, nothing}
 use Rattle.law_run.specs.Bounds.{AtMost}
-use Rattle.law_transaction.specs.Law.{EndsInLink}
 use Rattle.law_transaction.proofs.Imaging.{images_keep}
 use Rattle.law_transaction.proofs.Mutes.{stored_at}
-use Rattle.law_round.specs.Lawful.{Lawful, names, faces, reset_faces}
+use Rattle.law_round.specs.Lawful.{Lawful, faces}
 use Rattle.law_round.specs.Polled.{SameCards}
-use Rattle.law_round.specs.Acting.{are_passages, is_open, linked_at, party_at, without, shown}
+use Rattle.law_round.specs.Acting.{are_passages, is_open, linked_at, party_at, shown}
 use Rattle.law_round.proofs.Lawfulness.{stays_lawful_law}
 use Rattle.law_round.proofs.Polling.{polls_quietly_law}
 use Rattle.law_round.proofs.Acting.{others_stay_law}
 use Rattle.law_round.proofs.Carrying.{once_in_field_law, leaves_others_law, stays_ready_law}
 use Rattle.law_round.proofs.Closing.{closes_quietly_law}
-use Rattle.law_radio.specs.OverRadio.{numbers, AreDistinct, AreNumbered, IsNew, IsCarried, IsWhole, AtThird, Keeps, OverRadio}
+use Rattle.law_radio.specs.OverRadio.{numbers, AreDistinct, AreNumbered, IsNew, IsCarried, AtThird, Keeps, OverRadio}
 use Rattle.law_radio.proofs.Numbers.{number_stays}
 use Rattle.law_radio.proofs.Cards.{AllImages, names_polled, numbers_polled, numbers_moved, numbered_again, found_number, have_all, images_polled, images_presented, images_moved, images_stay, image_at, none_selected}
-use Rattle.law_radio.proofs.Kept.{Same, Kept, say_kept, poll_kept, close_kept, answer_kept}
-use Rattle.law_radio.proofs.Opening.{Arrived, arrives}
+use Rattle.law_radio.proofs.Kept.{Kept, say_kept, poll_kept, close_kept, answer_kept}
+use Rattle.law_radio.proofs.Opening.{arrives}
 
 -- a field with an open link has the linked card
 open_linked : (kind : CardKind) (n : ℕ) (f : Field) → is_open kind n f ≡ true → linked_at kind f.air.gone n f.cards ≡ true
@@ -360,21 +359,24 @@ module _ (number_of : Activated → ℕ) (later : List RoundEnd) where
     then_run = perfect one (next response) later then_channel
 
     ends_here : (log : List (ℕ × List ℕ)) → (log ≡ []) ⊎ (log ≡ (card_number, c) ∷ []) → AtThird v.medium c → Kept (AtThird v.medium) (Command c next) [] log (run_of c next later ch card_number card_image) AtLink
-    ends_here log executed third = (record {
-      number = card_number;
-      command = c;
-      wished = refl;
-      response = response;
-      before = [];
-      after = (so_far (next response) then_run.results).events;
-      perfect_said = refl;
-      said = refl;
-      earlier = [];
-      later = then_run.commands;
-      perfect_executed = refl;
-      all_earlier = refl;
-      executed = executed;
-    }, third)
+    ends_here log executed third = (
+      record {
+        number = card_number;
+        command = c;
+        wished = refl;
+        response = response;
+        before = [];
+        after = (so_far (next response) then_run.results).events;
+        perfect_said = refl;
+        said = refl;
+        earlier = [];
+        later = then_run.commands;
+        perfect_executed = refl;
+        all_earlier = refl;
+        executed = executed;
+      },
+      third,
+    )
 
     spent_here : (log : List (ℕ × List ℕ)) → (log ≡ []) ⊎ (log ≡ (card_number, c) ∷ []) → AtThird v.medium c → v.medium.log ≡ s.medium.log ++ log → Goal (Command c next) AtLink ch s v []
     spent_here log executed third is =

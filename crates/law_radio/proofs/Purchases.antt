@@ -1,5 +1,5 @@
 -- The transaction of Entry Point over the radio, and what is told of it.
-use Rattle.std.proofs.Common.{◌≡◌, ◌≢◌, ℕ, List, [], ◌++◌, length, refl, sym, ap, ◌∙◌, subst}
+use Rattle.std.proofs.Common.{ℕ, [], length, subst}
 use Rattle.ep_base.specs.Hearing.{Activated}
 use Rattle.ep_base.specs.CardAnswer.{Image}
 use Rattle.ep_base.specs.Medium.{told}
@@ -9,7 +9,7 @@ use Rattle.ep_base.specs.Said.{Said}
 use Rattle.ep_base.specs.Kernel.{KernelSteps}
 use Rattle.ep_base.specs.Talk.{Talk}
 use Rattle.ep_base.specs.Transport.{EventSteps}
-use Rattle.ep_base.specs.TransportRun.{RunEnd, Ended, DeviceFailed, AtDevice, Left, Runs}
+use Rattle.ep_base.specs.TransportRun.{Ended, DeviceFailed, AtDevice, Left}
 use Rattle.law_run.specs.Bounds.{log_bound}
 use Rattle.law_run.specs.Heard.{RanBy}
 use Rattle.law_run.proofs.Bounding.{few_commands_lem}

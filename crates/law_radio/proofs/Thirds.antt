@@ -1,5 +1,5 @@
 -- The reader's turn over a medium is its turn after what it heard.
-use Rattle.std.proofs.Common.{◌≡◌, ℕ, List, [], ◌∷◌, map, refl, sym, ap, ◌∙◌, subst}
+use Rattle.std.proofs.Common.{◌≡◌, List, [], ◌∷◌, sym, subst}
 use Rattle.ep_base.specs.Hearing.{Hearing}
 use Rattle.ep_base.specs.Block.{Heard}
 use Rattle.ep_base.specs.ReaderEnd.{Reader, Turn, Asks, Gives, Spends, Breaks, begin}

@@ -12,7 +12,7 @@ use Rattle.ep_base.specs.KernelCounts.{FallingCounts}
 use Rattle.ep_base.specs.EntryPoint.{transaction}
 use Rattle.ep_base.specs.Talk.{Talk, Result}
 use Rattle.ep_base.specs.Transport.{EventSteps}
-use Rattle.ep_base.specs.TransportRun.{HearEnd, RunEnd, Ended, DeviceFailed, Left, Runs, Hears, all_taken, said_for}
+use Rattle.ep_base.specs.TransportRun.{HearEnd, Ended, DeviceFailed, Left, Runs, all_taken, said_for}
 use Rattle.ep_base.specs.Course.{ends_of}
 use Rattle.ep_base.specs.Direct.{image_rules}
 use Rattle.ep_base.specs.Perfect.{perfect, channel}

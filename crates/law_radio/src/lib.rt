@@ -7,6 +7,7 @@
 ghost use Rattle.ep_base.specs.Kernel.{KernelSteps};
 ghost use Rattle.ep_base.specs.Medium.{MediumSteps};
 ghost use Rattle.ep_base.specs.Transport.{EventSteps};
+ghost use Rattle.law_radio.specs.Opening.{NewFieldIsNew};
 ghost use Rattle.law_radio.specs.OverRadio.{OverRadio};
 ghost use Rattle.law_radio.specs.Purchases.{RunsOverRadio, TransactionIsCarried};
 ghost use Rattle.law_radio.specs.Thirds.{SpentAtThird};
@@ -41,6 +42,12 @@ pub trait Medium {
 /// found and not closed; and the empty log has room for more records than the talk has commands.
 pub fn over_the_radio()
     ensures { OverRadio }
+{}
+
+/// A field that was just opened with a document's cards is as this law wants it, with the numbers and the images that are
+/// found in it by kind and identifier, and by number.
+pub fn new_field_is_new()
+    ensures { NewFieldIsNew }
 {}
 
 /// A transaction of Entry Point with kernels that send commands alone is such a talk, where the log has room for one
