@@ -1,0 +1,122 @@
+-- Each step of a talk adds the same to what was heard and executed as to the perfect run.
+use Rattle.std.proofs.Common.{◌≡◌, inl, inr, ℕ, suc, List, ◌∷◌, ap}
+use Rattle.ep_base.specs.Hearing.{RoundEnd}
+use Rattle.ep_base.specs.Said.{Told, Said, Tells, Apdu}
+use Rattle.ep_base.specs.Talk.{Talk, Say, Poll, Command, Close, Result, Round, Response, Closed, Nothing, so_far}
+use Rattle.ep_base.specs.TransportRun.{HearEnd, Whole, AtLink, AtBreach, AtDevice, said_for}
+use Rattle.ep_base.specs.Perfect.{Perfect, gave, executes}
+use Rattle.law_transaction.specs.Law.{EndsInLink}
+
+-- Heard to the end: the perfect run has the same results.
+pub record Same (talk : Talk) (heard : List Result) (log : List (ℕ × List ℕ)) (p : Perfect) : Type 0 where
+  pub results : p.results ≡ heard
+  pub executed : log ≡ p.commands
+  pub over : (so_far talk heard).wish ≡ Nothing
+
+-- Of a command that failed its link, Third is said.
+abbrev pub Kept : (List ℕ → Type 0) → Talk → List Result → List (ℕ × List ℕ) → Perfect → HearEnd → Type 0
+Kept Third talk heard log p Whole = Same talk heard log p
+Kept Third talk heard log p AtLink = (e : EndsInLink talk heard (said_for talk heard AtLink) log p) × Third e.command
+Kept Third talk heard log p AtBreach = ⊥
+Kept Third talk heard log p AtDevice = ⊥
+
+pub say_kept : (Third : List ℕ → Type 0) (x : Told) (next : Talk) (heard : List Result) (log : List (ℕ × List ℕ)) (p : Perfect) (ending : HearEnd) → Kept Third next heard log p ending → Kept Third (Say x next) heard log p ending
+say_kept Third x next heard log p Whole r = record { results = r.results; executed = r.executed; over = r.over }
+say_kept Third x next heard log p AtLink (r, third) = (
+  record {
+    number = r.number;
+    command = r.command;
+    wished = r.wished;
+    response = r.response;
+    before = Tells x ∷ r.before;
+    after = r.after;
+    perfect_said = ap (λ (l : List Said). Tells x ∷ l) r.perfect_said;
+    said = ap (λ (l : List Said). Tells x ∷ l) r.said;
+    earlier = r.earlier;
+    later = r.later;
+    perfect_executed = r.perfect_executed;
+    all_earlier = r.all_earlier;
+    executed = r.executed;
+  },
+  third,
+)
+say_kept Third x next heard log p AtBreach r = r
+say_kept Third x next heard log p AtDevice r = r
+
+pub poll_kept : (Third : List ℕ → Type 0) (x : RoundEnd) (next : RoundEnd → Talk) (heard : List Result) (log : List (ℕ × List ℕ)) (p : Perfect) (ending : HearEnd) → Kept Third (next x) heard log p ending
+    → Kept Third (Poll next) (Round x ∷ heard) log (gave (Round x) p) ending
+poll_kept Third x next heard log p Whole r = record { results = ap (λ (l : List Result). Round x ∷ l) r.results; executed = r.executed; over = r.over }
+poll_kept Third x next heard log p AtLink (r, third) = (
+  record {
+    number = r.number;
+    command = r.command;
+    wished = r.wished;
+    response = r.response;
+    before = r.before;
+    after = r.after;
+    perfect_said = r.perfect_said;
+    said = r.said;
+    earlier = r.earlier;
+    later = r.later;
+    perfect_executed = r.perfect_executed;
+    all_earlier = r.all_earlier;
+    executed = r.executed;
+  },
+  third,
+)
+poll_kept Third x next heard log p AtBreach r = r
+poll_kept Third x next heard log p AtDevice r = r
+
+pub close_kept : (Third : List ℕ → Type 0) (next : Talk) (heard : List Result) (log : List (ℕ × List ℕ)) (p : Perfect) (ending : HearEnd) → Kept Third next heard log p ending → Kept Third (Close next) (Closed ∷ heard) log (gave Closed p) ending
+close_kept Third next heard log p Whole r = record { results = ap (λ (l : List Result). Closed ∷ l) r.results; executed = r.executed; over = r.over }
+close_kept Third next heard log p AtLink (r, third) = (
+  record {
+    number = r.number;
+    command = r.command;
+    wished = r.wished;
+    response = r.response;
+    before = r.before;
+    after = r.after;
+    perfect_said = r.perfect_said;
+    said = r.said;
+    earlier = r.earlier;
+    later = r.later;
+    perfect_executed = r.perfect_executed;
+    all_earlier = r.all_earlier;
+    executed = r.executed;
+  },
+  third,
+)
+close_kept Third next heard log p AtBreach r = r
+close_kept Third next heard log p AtDevice r = r
+
+pub answer_kept : (Third : List ℕ → Type 0) (n : ℕ) (c a : List ℕ) (next : List ℕ → Talk) (heard : List Result) (log : List (ℕ × List ℕ)) (p : Perfect) (ending : HearEnd) → Kept Third (next a) heard log p ending
+    → Kept Third (Command c next) (Response a ∷ heard) ((n, c) ∷ log) (executes n c (gave (Response a) p)) ending
+answer_kept Third n c a next heard log p Whole r = record {
+  results = ap (λ (l : List Result). Response a ∷ l) r.results;
+  executed = ap (λ (l : List (ℕ × List ℕ)). (n, c) ∷ l) r.executed;
+  over = r.over;
+}
+answer_kept Third n c a next heard log p AtLink (r, third) = (
+  record {
+    number = r.number;
+    command = r.command;
+    wished = r.wished;
+    response = r.response;
+    before = Apdu c a ∷ r.before;
+    after = r.after;
+    perfect_said = ap (λ (l : List Said). Apdu c a ∷ l) r.perfect_said;
+    said = ap (λ (l : List Said). Apdu c a ∷ l) r.said;
+    earlier = (n, c) ∷ r.earlier;
+    later = r.later;
+    perfect_executed = ap (λ (l : List (ℕ × List ℕ)). (n, c) ∷ l) r.perfect_executed;
+    all_earlier = ap suc r.all_earlier;
+    executed = elim r.executed [
+      | inl e ↦ inl (ap (λ (l : List (ℕ × List ℕ)). (n, c) ∷ l) e)
+      | inr e ↦ inr (ap (λ (l : List (ℕ × List ℕ)). (n, c) ∷ l) e)
+    ];
+  },
+  third,
+)
+answer_kept Third n c a next heard log p AtBreach r = r
+answer_kept Third n c a next heard log p AtDevice r = r

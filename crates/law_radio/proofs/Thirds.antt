@@ -1,0 +1,37 @@
+-- The reader's turn over a medium is its turn after what it heard.
+use Rattle.std.proofs.Common.{◌≡◌, List, [], ◌∷◌, sym, subst}
+use Rattle.ep_base.specs.Hearing.{Hearing}
+use Rattle.ep_base.specs.Block.{Heard}
+use Rattle.ep_base.specs.ReaderEnd.{Reader, Turn, Asks, Gives, Spends, Breaks, begin}
+use Rattle.ep_base.specs.LinkFrames.{LinkSetting, heard_block}
+use Rattle.ep_base.specs.Medium.{MediumSteps}
+use Rattle.ep_base.specs.Carry.{turn_on, GoesOn, Follows}
+use Rattle.law_link.specs.Bounds.{after_all, IsBounded}
+use Rattle.law_link.proofs.Bounding.{bounded_toggles}
+use Rattle.law_radio.specs.Thirds.{SpentAtThird}
+
+module _ {S : Type 0} (steps : MediumSteps S) (set : LinkSetting) where
+  read : List Hearing → List Heard
+  read [] = []
+  read (h ∷ hs) = heard_block set.kind set.frames.reader h ∷ read hs
+
+  abbrev After : List Hearing → Turn → Turn
+  After hs turn = after_all set.frames.reader (read hs) turn
+
+  goes : (next : Turn) (hs : List Hearing) (s t : S) (turn : Turn) → ((q : Reader) → Follows steps set hs q s turn t → turn ≡ After hs (Asks q))
+      → GoesOn (λ q v. Follows steps set hs q v turn t) next hs s turn t → turn ≡ After hs next
+  unfolding read
+  goes (Asks q) hs s t turn more x = more q x
+  goes (Gives response q) hs s t turn more x = subst (λ ys. turn ≡ After ys (Gives response q)) (sym x.0) x.1
+  goes (Spends q) hs s t turn more x = subst (λ ys. turn ≡ After ys (Spends q)) (sym x.0) x.1
+  goes (Breaks q) hs s t turn more x = subst (λ ys. turn ≡ After ys (Breaks q)) (sym x.0) x.1
+
+  turn_is : (hs : List Hearing) (r : Reader) (s t : S) (turn : Turn) → Follows steps set hs r s turn t → turn ≡ After hs (Asks r)
+  unfolding read
+  turn_is [] r s t turn x = x.0
+  turn_is (h ∷ hs) r s t turn x = goes (turn_on set r h) hs x.0 t turn (λ q y. turn_is hs q x.0 t turn y) x.2
+
+pub spent_at_third_law : {S : Type 0} (steps : MediumSteps S) → SpentAtThird steps
+spent_at_third_law steps l command s t turn fresh comes =
+    subst (λ x. IsBounded x) (sym (turn_is steps l.set comes.hearings (begin l.set.frames.card command l.reader) s t turn comes.follows))
+    (bounded_toggles l.set.frames.card l.set.frames.reader command l.reader (read steps l.set comes.hearings) fresh)

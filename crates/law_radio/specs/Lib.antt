@@ -1,0 +1,4 @@
+pub mod Opening
+pub mod OverRadio
+pub mod Purchases
+pub mod Thirds

@@ -1,0 +1,93 @@
+-- A talk over the radio, against the perfect run for the ends of its rounds.
+use Rattle.std.specs.Prelude.{◌≡◌, ◌≢◌, ℕ, ◌<◌, false, List, [], ◌∷◌, ◌++◌, None}
+use Rattle.ep_base.specs.Hearing.{Activated, RoundEnd}
+use Rattle.ep_base.specs.Apdu.{is_command}
+use Rattle.ep_base.specs.CardAnswer.{Image}
+use Rattle.ep_base.specs.Medium.{told}
+use Rattle.ep_base.specs.Field.{Placed, Field, field}
+use Rattle.ep_base.specs.Block.{is_bad, count}
+use Rattle.ep_base.specs.ReaderEnd.{Reader, Spends}
+use Rattle.ep_base.specs.Radio.{OpenLink, Radio, Comes, radio}
+use Rattle.ep_base.specs.Talk.{Talk, Result, Nothing, so_far, IsLegal}
+use Rattle.ep_base.specs.TransportRun.{HearEnd, Whole, AtLink, AtBreach, AtDevice, Hears, said_for}
+use Rattle.ep_base.specs.Course.{ends_of}
+use Rattle.ep_base.specs.Direct.{image_rules}
+use Rattle.ep_base.specs.Perfect.{Perfect, perfect, channel}
+use Rattle.law_run.specs.Bounds.{AtMost}
+use Rattle.law_transaction.specs.Law.{EndsInLink}
+use Rattle.law_round.specs.Lawful.{kind_of, id_of, Lawful}
+
+-- The numbers of the cards' images (this project's own).
+abbrev pub numbers : List Placed → List ℕ
+numbers [] = []
+numbers (p ∷ ps) = p.party.image.number ∷ numbers ps
+
+-- None of these is this number (this project's own).
+abbrev pub IsOther : ℕ → List ℕ → Type 0
+IsOther n [] = Unit {0}
+IsOther n (m ∷ ms) = (m ≢ n) × IsOther n ms
+
+-- No two of these are the same (this project's own).
+abbrev pub AreDistinct : List ℕ → Type 0
+AreDistinct [] = Unit {0}
+AreDistinct (n ∷ ns) = IsOther n ns × AreDistinct ns
+
+-- The number of each of these cards is the one of its kind and identifier (this project's own).
+abbrev pub AreNumbered : (Activated → ℕ) → List Placed → Type 0
+AreNumbered number_of [] = Unit {0}
+AreNumbered number_of (p ∷ ps) =
+    ((card : Activated) → card.kind ≡ kind_of p.outside → card.id ≡ id_of p.outside → number_of card ≡ p.party.image.number)
+    × AreNumbered number_of ps
+
+-- The image of each of these cards is the one with its number (this project's own).
+abbrev pub HaveImages : (ℕ → Image) → List Placed → Type 0
+HaveImages images [] = Unit {0}
+HaveImages images (p ∷ ps) = (images p.party.image.number ≡ p.party.image) × HaveImages images ps
+
+-- A radio before its first presentation, over a field of a document's cards with these images. Nothing is in the log (this project's own).
+pub record IsNew (number_of : Activated → ℕ) (images : ℕ → Image) (s : Radio Field) : Type 0 where
+  pub lawful : Lawful s.medium
+  pub numbered : AreNumbered number_of s.medium.cards
+  pub distinct : AreDistinct (numbers s.medium.cards)
+  pub have : HaveImages images s.medium.cards
+  pub unlinked : s.link ≡ None
+  pub empty : s.medium.log ≡ []
+
+-- A talk that a log with this room carries: it sends commands alone, and these to a card that was found and not closed, and the log has room for
+-- more records than the talk has commands (this project's own).
+pub record IsCarried (talk : Talk) (room : ℕ) : Type 0 where
+  pub legal : IsLegal is_command false talk
+  pub commands : ℕ
+  pub most : AtMost commands talk
+  pub free : commands < room
+
+-- A talk that was heard to its end, against the perfect run: its events are those of that run, and the cards executed exactly the commands of
+-- that run, each once and in order (this project's own).
+pub record IsWhole (talk : Talk) (heard : List Result) (log : List (ℕ × List ℕ)) (p : Perfect) : Type 0 where
+  pub events : said_for talk heard Whole ≡ (so_far talk p.results).events
+  pub executed : log ≡ p.commands
+  pub over : (so_far talk heard).wish ≡ Nothing
+
+-- A command over an open link of the field came to this field, and its last hearing was the third bad one since the reader's last toggle, or since
+-- the link was opened (this project's profile).
+pub record AtThird (u : Field) (command : List ℕ) : Type 0 where
+  pub link : OpenLink
+  pub before : Field
+  pub reader : Reader
+  pub comes : Comes (told field) link command before (Spends reader) u
+  pub third : count is_bad reader.since ≡ 3
+
+-- By what ended the hearing: it came to its end, or a link failed at a command's third bad hearing, and nothing else comes (this project's own).
+abbrev pub Keeps : Talk → List Result → Field → Perfect → HearEnd → Type 0
+Keeps talk heard u p Whole = IsWhole talk heard u.log p
+Keeps talk heard u p AtLink = (e : EndsInLink talk heard (said_for talk heard AtLink) u.log p) × AtThird u e.command
+Keeps talk heard u p AtBreach = ⊥
+Keeps talk heard u p AtDevice = ⊥
+
+-- Whatever becomes of the frames, and whichever cards are present in each round: what a talk over the radio hears and what the cards execute is
+-- as in the perfect run for the ends of its rounds, and whatever ends come later (this project's own).
+abbrev pub OverRadio : Type 0
+OverRadio =
+    (number_of : Activated → ℕ) (images : ℕ → Image) (talk : Talk) (s u : Radio Field) (heard : List Result) (ending : HearEnd) (later : List RoundEnd) →
+    IsNew number_of images s → IsCarried talk s.medium.room → Hears (radio (told field)) talk [] s heard ending u →
+    Keeps talk heard u.medium (perfect (image_rules number_of) talk (ends_of heard ++ later) (channel images)) ending
