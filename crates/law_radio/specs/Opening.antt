@@ -1,4 +1,4 @@
--- The field of a document's cards before its first presentation.
+-- The field of a document's cards before its first presentation (this project's own).
 use Rattle.std.specs.Prelude.{ℕ, ◌==◌, ◌&&◌, Bool, if◌then◌else◌, List, [], ◌∷◌, None}
 use Rattle.std.specs.Str.{bytes_eq}
 use Rattle.ep_base.specs.declared.air.CardKind.{CardKind}

@@ -1,4 +1,4 @@
--- A talk over the radio, against the perfect run for the ends of its rounds.
+-- A talk over the radio, against the perfect run for the ends of its rounds (this project's own).
 use Rattle.std.specs.Prelude.{◌≡◌, ◌≢◌, ℕ, ◌<◌, false, List, [], ◌∷◌, ◌++◌, None}
 use Rattle.ep_base.specs.Hearing.{Activated, RoundEnd}
 use Rattle.ep_base.specs.Apdu.{is_command}

@@ -1,4 +1,4 @@
--- The transaction of Entry Point over the radio, and what is told of it.
+-- The transaction of Entry Point over the radio, and what is told of it (this project's own).
 use Rattle.std.specs.Prelude.{◌≡◌, ◌≢◌, ℕ, ◌<◌, List, [], ◌++◌, length}
 use Rattle.ep_base.specs.Hearing.{Activated, RoundEnd}
 use Rattle.ep_base.specs.CardAnswer.{Image}

@@ -1,4 +1,4 @@
--- When a command loses its link.
+-- When a command loses its link (this project's own).
 use Rattle.std.specs.Prelude.{◌≡◌, List, [], ℕ}
 use Rattle.ep_base.specs.Medium.{MediumSteps}
 use Rattle.ep_base.specs.ReaderEnd.{Turn}
