@@ -5,30 +5,13 @@
 #![tactic(auto)]
 
 ghost use Rattle.ep_base.specs.Kernel.{KernelSteps};
-ghost use Rattle.ep_base.specs.Medium.{MediumSteps};
-ghost use Rattle.ep_base.specs.Transport.{EventSteps};
 ghost use Rattle.law_radio.specs.Opening.{NewFieldIsNew};
 ghost use Rattle.law_radio.specs.OverRadio.{OverRadio};
 ghost use Rattle.law_radio.specs.Purchases.{RunsOverRadio, TransactionIsCarried};
 ghost use Rattle.law_radio.specs.Thirds.{SpentAtThird};
 
-/// A taker of events, by what it is after each.
-pub trait Taker {
-    /// Its states.
-    ghost State: { Type 0 };
-
-    /// What an event that is taken, or cut, makes of it.
-    ghost steps: { EventSteps State };
-}
-
-/// A medium, by the answers that it may give in each state.
-pub trait Medium {
-    /// Its states.
-    ghost State: { Type 0 };
-
-    /// Its answers.
-    ghost steps: { MediumSteps State };
-}
+use law_run::Taker;
+use rf_frame::Medium;
 
 /// A talk over the radio keeps to the perfect run for the ends that its rounds gave, for every list of fates and of
 /// presences.
