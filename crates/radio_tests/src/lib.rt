@@ -1,0 +1,7 @@
+//! Tests of whole purchases over the radio: a session, a transport over a field of cards, and fates of their frames.
+#![tactic(auto)]
+
+#[cfg(test)]
+mod cards;
+#[cfg(test)]
+mod tests;
