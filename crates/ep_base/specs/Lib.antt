@@ -48,6 +48,7 @@ pub mod Round
 pub mod Said
 pub mod Spelling
 pub mod Talk
+pub mod TraceLine
 pub mod Transport
 pub mod TransportRun
 pub mod TypeA
