@@ -44,6 +44,7 @@ pub mod Polling
 pub mod Radio
 pub mod Reading
 pub mod ReportLine
+pub mod ReplayRun
 pub mod Round
 pub mod Said
 pub mod Spelling

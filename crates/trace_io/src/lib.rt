@@ -1,13 +1,18 @@
-//! Trace lines, written and read: each exchange of a run has one line (this project's own format).
+//! Trace lines, written and read, and the trace of an earlier run as a medium: each exchange of a run has one line (this
+//! project's own format).
 #![tactic(auto)]
 
 mod fields;
 mod line;
+mod mismatch;
 mod pieces;
 mod reading;
+mod replay;
 
 pub use line::{Shown, TraceLine, trace_line};
+pub use mismatch::Mismatch;
 pub use reading::read_trace_line;
+pub use replay::Replay;
 
 #[cfg(test)]
 mod tests;

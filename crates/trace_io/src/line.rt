@@ -1,6 +1,7 @@
 //! An exchange, and its line.
 ghost use Rattle.std.specs.Prelude.{◌≡◌, ◌≤◌, ◌++◌, [], length};
 ghost use Rattle.ep_base.specs.TraceLine.{heard_text, shown_text, trace_line};
+ghost use Rattle.ep_base.specs.ReplayRun.{same_shown};
 ghost use Rattle.rf_frame.specs.Meaning.{heard_of};
 ghost use Rattle.trace_io.specs.Meaning.{traced_of};
 
@@ -44,6 +45,16 @@ impl Shown {
             wait: self.wait,
         }
     }
+}
+
+/// Whether lane, wave, frame and waiting number are the same.
+pub(crate) fn same_shown(a: &Shown, b: &Shown) -> bool
+    ensures { result ≡ same_shown a.now b.now }
+{
+    a.lane == b.lane
+        && a.wave == b.wave
+        && a.frame.as_slice() == b.frame.as_slice()
+        && a.wait == b.wait
 }
 
 /// One exchange of a lane.
