@@ -49,6 +49,7 @@ pub mod Round
 pub mod Said
 pub mod Spelling
 pub mod Talk
+pub mod TraceForm
 pub mod TraceLine
 pub mod Transport
 pub mod TransportRun

@@ -65,7 +65,7 @@ abbrev pub is_space : ℕ → Bool
 is_space b = b == 32
 
 -- A word, and what stands after the space that ends it (this project's own).
-abbrev pub cut : List ℕ → Option (List ℕ × List ℕ)
+unfoldable pub cut : List ℕ → Option (List ℕ × List ℕ)
 cut text = if nat_lt (position_or_len is_space text) (length text) then Some (before_first is_space text, after_first is_space text) else None
 
 -- A number from low to high whose decimal digits are this text (this project's own).
@@ -73,11 +73,11 @@ abbrev pub number_that : ℕ → ℕ → List ℕ → ℕ → Option ℕ
 number_that low high text n = if same_bytes text (decimal n) && nat_le low n && nat_le n high then Some n else None
 
 -- The number from low to high that decimal digits write, without a leading zero (this project's own).
-abbrev pub number_in : ℕ → ℕ → List ℕ → Option ℕ
+unfoldable pub number_in : ℕ → ℕ → List ℕ → Option ℕ
 number_in low high text = number_that low high text (digits_value 10 text)
 
 -- The wave that has this letter (this project's own).
-abbrev pub wave_named : List ℕ → Option Wave
+unfoldable pub wave_named : List ℕ → Option Wave
 wave_named word = find (λ wave. same_bytes word (wave_letter wave)) (AShort ∷ ABare ∷ A ∷ B ∷ [])
 
 abbrev pub frame_within : Result (List ℕ) FromHexError → Option (List ℕ)
@@ -85,7 +85,7 @@ frame_within (Ok bytes) = if nat_le 1 (length bytes) && nat_le (length bytes) 25
 frame_within (Err e) = None
 
 -- The frame of 1 to 256 bytes that hexadecimal digits of either case spell (this project's own).
-abbrev pub frame_spelled : List ℕ → Option (List ℕ)
+unfoldable pub frame_spelled : List ℕ → Option (List ℕ)
 frame_spelled digits = frame_within (decode_of digits)
 
 -- What stands after an equals sign (this project's own).
@@ -101,7 +101,7 @@ framed_spelled wave text = do
   Some (Frame wave bytes)
 
 -- What a text says was heard after a frame of this wave (this project's own).
-abbrev pub heard_spelled : Wave → List ℕ → Option Hearing
+unfoldable pub heard_spelled : Wave → List ℕ → Option Hearing
 heard_spelled wave text =
     if same_bytes text (codes "-") then Some Silence
     else (if same_bytes text (codes "?") then Some Noise
@@ -111,15 +111,15 @@ heard_spelled wave text =
 -- What a text says was sent, and what stands after it (this project's own).
 unfoldable pub read_shown : List ℕ → Option (Shown × List ℕ)
 read_shown text = do
-  (lane_word, after_lane) ← cut text
-  lane ← number_in 1 8 lane_word
-  (letter, after_wave) ← cut after_lane
-  wave ← wave_named letter
-  (digits, after_frame) ← cut after_wave
-  frame ← frame_spelled digits
-  (wait_word, rest) ← cut after_frame
-  wait ← number_in 0 16384 wait_word
-  Some (record { lane = lane; wave = wave; frame = frame; wait = wait }, rest)
+  first ← cut text
+  lane ← number_in 1 8 first.0
+  second ← cut first.1
+  wave ← wave_named second.0
+  third ← cut second.1
+  frame ← frame_spelled third.0
+  fourth ← cut third.1
+  wait ← number_in 0 16384 fourth.0
+  Some (record { lane = lane; wave = wave; frame = frame; wait = wait }, fourth.1)
 
 abbrev pub after_mark : List ℕ × List ℕ → Option (List ℕ)
 after_mark parts = if same_bytes parts.0 (codes "x") then Some parts.1 else None

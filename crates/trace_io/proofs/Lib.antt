@@ -1,2 +1,4 @@
 pub mod HexText
+pub mod Spelt
 pub mod Taken
+pub mod Words

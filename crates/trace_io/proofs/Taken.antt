@@ -24,6 +24,7 @@ outside_by text (Ok bytes) is out =
 
 -- a text of another size spells no frame
 pub spelled_outside : (text : List ℕ) → (length text / 2 < 1) ⊎ (256 < length text / 2) → frame_spelled text ≡ None
+unfolding frame_spelled
 spelled_outside text out = outside_by text (decode_of text) refl out
 
 -- What is taken of a number that was parsed.
@@ -70,6 +71,7 @@ taken_by low high text (Ok n) small parses false is = by_test (is_that low high 
 
 -- a text is the number that is parsed of it, if it has that number's digits
 pub number_taken : {E : Type 0} (low high : ℕ) (text : List ℕ) (r : Result ℕ E) → high < 2 ^ 32 → ParsesUnsigned 32 10 text r → taken low high text r ≡ number_in low high text
+unfolding number_in
 number_taken low high text r small parses = taken_by low high text r small parses (is_that low high text (digits_value 10 text)) refl
 
 no_equals : (text : List ℕ) → ((rest : List ℕ) → text ≢ 61 ∷ rest) → after_equals text ≡ None

@@ -8,6 +8,7 @@ use itoa::Buffer;
 use rf_frame::Heard;
 
 /// A word, and what stands after the space that ends it.
+#[tactic(auto, unfolding(ep_base::specs::TraceLine::cut))]
 pub(crate) fn cut(text: &str) -> Option<(&str, &str)>
     ensures { option_map (λ p. (p.0.now, p.1.now)) result ≡ cut text.now }
 {
@@ -39,6 +40,7 @@ fn number_that(number: u32, text: &str, low: u32, high: u32) -> Option<u32>
 }
 
 /// The wave that has this letter.
+#[tactic(auto, unfolding(ep_base::specs::TraceLine::wave_named))]
 pub(crate) fn wave_named(letter: &str) -> Option<Wave>
     ensures { result ≡ wave_named letter.now }
 {
@@ -52,6 +54,7 @@ pub(crate) fn wave_named(letter: &str) -> Option<Wave>
 }
 
 /// The frame of 1 to 256 bytes that hexadecimal digits of either case spell.
+#[tactic(auto, unfolding(ep_base::specs::TraceLine::frame_spelled))]
 pub(crate) fn frame_spelled(digits: &str) -> Option<FrameBuf>
     ensures { option_map (λ b. b.items) result ≡ frame_spelled digits.now }
 {
@@ -67,6 +70,7 @@ pub(crate) fn frame_spelled(digits: &str) -> Option<FrameBuf>
 }
 
 /// What a text says was heard after a frame of this wave.
+#[tactic(auto, unfolding(ep_base::specs::TraceLine::heard_spelled))]
 pub(crate) fn heard_spelled(sent: Wave, text: &str) -> Option<Heard>
     ensures { option_map heard_of result ≡ heard_spelled sent text.now }
 {

@@ -3,12 +3,14 @@
 #![tactic(auto)]
 
 mod fields;
+mod laws;
 mod line;
 mod mismatch;
 mod pieces;
 mod reading;
 mod replay;
 
+pub use laws::written_is_read;
 pub use line::{Shown, TraceLine, trace_line};
 pub use mismatch::Mismatch;
 pub use reading::read_trace_line;

@@ -1,0 +1,7 @@
+//! Laws about trace lines, over plain lists of bytes: each function's contract is a law, and its body is empty.
+ghost use Rattle.ep_base.specs.TraceForm.{WrittenIsRead};
+
+/// What was written of an exchange that a line can hold, without its newline, is read as this exchange.
+pub fn written_is_read()
+    ensures { WrittenIsRead }
+{}
