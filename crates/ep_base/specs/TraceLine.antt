@@ -125,7 +125,9 @@ abbrev pub after_mark : List ℕ × List ℕ → Option (List ℕ)
 after_mark parts = if same_bytes parts.0 (codes "x") then Some parts.1 else None
 
 abbrev pub with_heard : Shown × List ℕ → Option Traced
-with_heard parts = option_map (λ heard. record { sent = parts.0; heard = heard }) (heard_spelled parts.0.wave parts.1)
+with_heard parts = do
+  heard ← heard_spelled parts.0.wave parts.1
+  Some (record { sent = parts.0; heard = heard })
 
 -- The exchange that a line without its newline spells (this project's own).
 unfoldable pub read_trace_line : List ℕ → Option Traced

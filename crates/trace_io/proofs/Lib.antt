@@ -1,4 +1,5 @@
 pub mod HexText
+pub mod Parts
 pub mod Spelt
 pub mod Taken
 pub mod Words

@@ -32,28 +32,30 @@ abbrev pub taken : {E : Type 0} → ℕ → ℕ → List ℕ → Result ℕ E �
 taken low high text (Ok n) = number_that low high text n
 taken low high text (Err e) = None
 
-abbrev is_that : ℕ → ℕ → List ℕ → ℕ → Bool
+abbrev pub is_that : ℕ → ℕ → List ℕ → ℕ → Bool
 is_that low high text n = same_bytes text (decimal n) && nat_le low n && nat_le n high
 
-that_is : (low high : ℕ) (text : List ℕ) (n : ℕ) → is_that low high text n ≡ true → (text ≡ decimal n) × (n ≤ high)
+-- a number that is found has these digits, and lies within its bounds
+pub that_is : (low high : ℕ) (text : List ℕ) (n : ℕ) → is_that low high text n ≡ true → (text ≡ decimal n) × (low ≤ n) × (n ≤ high)
 that_is low high text n h =
     let parts = and_parts (same_bytes text (decimal n) && nat_le low n) (nat_le n high) h in
     let first = and_parts (same_bytes text (decimal n)) (nat_le low n) parts.0 in
+    let above : low ≤ n = grind (arith, nat_tests, first.1) in
     let below : n ≤ high = grind (arith, nat_tests, parts.1) in
-    (same_text text (decimal n) (sym first.0), below)
+    (same_text text (decimal n) (sym first.0), above, below)
 
 is_taken : {E : Type 0} (low high : ℕ) (text : List ℕ) (r : Result ℕ E) → high < 2 ^ 32 → ParsesUnsigned 32 10 text r
     → (v : ℕ) → is_that low high text v ≡ true → r ≡ Ok v
 is_taken low high text r small parses v h =
     let is = that_is low high text v h in
-    let fits : v < 2 ^ 32 = omega (arith, is.1, small) in
-    let wide : v < 2 ^ 64 = omega (arith, is.1, small) in
+    let fits : v < 2 ^ 32 = omega (arith, is.2, small) in
+    let wide : v < 2 ^ 64 = omega (arith, is.2, small) in
     parse-decimal 32 v text r fits wide is.0 parses
 
 value_of : (low high : ℕ) (text : List ℕ) (n : ℕ) → high < 2 ^ 32 → is_that low high text n ≡ true → digits_value 10 text ≡ n
 value_of low high text n small h =
     let is = that_is low high text n h in
-    let wide : n < 2 ^ 64 = omega (arith, is.1, small) in
+    let wide : n < 2 ^ 64 = omega (arith, is.2, small) in
     rw is.0 ((decimal_is_IsNumeral n wide).1)
 
 taken_by : {E : Type 0} (low high : ℕ) (text : List ℕ) (r : Result ℕ E) → high < 2 ^ 32 → ParsesUnsigned 32 10 text r
