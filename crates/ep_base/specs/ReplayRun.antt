@@ -1,5 +1,5 @@
 -- The comparison of a run with the trace of an earlier one (this project's own).
-use Rattle.std.specs.Prelude.{ℕ, ◌+◌, ◌-◌, ◌^◌, ◌==◌, ◌&&◌, min, Bool, true, false, List, slice_get, is_some, Some, None, if◌then◌else◌}
+use Rattle.std.specs.Prelude.{◌≡◌, ℕ, ◌+◌, ◌-◌, ◌^◌, ◌==◌, ◌&&◌, ◌↔◌, min, Bool, true, false, List, slice_get, IsSome, IsNone, Some, None, if◌then◌else◌}
 use Rattle.std.specs.declared.option.Option.{Option}
 use Rattle.ep_base.specs.declared.air.Wave.{Wave}
 use Rattle.ep_base.specs.Apdu.{same_bytes}
@@ -53,6 +53,7 @@ abbrev pub compared : Shown → Option Traced → Replaying → Option Hearing �
 compared got None s = (None, failing None (Some got) s)
 compared got (Some line) s = if same_shown line.sent got then (Some line.heard, took s) else (None, failing (Some line.sent) (Some got) s)
 
+-- A frame is compared with the next line, unless there is a failure (this project's own).
 abbrev pub sends_unless : Option Mismatch → Shown → Replaying → Option Hearing × Replaying
 sends_unless None got s = compared got (next_line s) s
 sends_unless (Some failure) got s = (None, s)
@@ -68,10 +69,12 @@ replay = record {
   send = λ s wave bytes wait. replays (record { lane = s.lane; wave = wave; frame = bytes; wait = wait }) s;
 }
 
+-- At the end of a run no line may be left (this project's own).
 abbrev pub left_over : Option Traced → Replaying → Bool × Replaying
 left_over None s = (true, s)
 left_over (Some line) s = (false, failing (Some line.sent) None s)
 
+-- The end of a run, unless there is a failure (this project's own).
 abbrev pub ends_unless : Option Mismatch → Replaying → Bool × Replaying
 ends_unless None s = left_over (next_line s) s
 ends_unless (Some failure) s = (false, s)
@@ -79,3 +82,13 @@ ends_unless (Some failure) s = (false, s)
 -- The run is over: all is well where no call failed before and no line is left (this project's own).
 abbrev pub finishes : Replaying → Bool × Replaying
 finishes s = ends_unless s.failure s
+
+-- After a failure each call fails, and the first failure is kept (this project's own).
+abbrev pub FailsForGood : Type 0
+FailsForGood = (s : Replaying) (got : Shown) → IsSome s.failure → (replays got s ≡ (None, s)) × (finishes s ≡ (false, s))
+
+-- A failure is held exactly from the first call on that fails (this project's own).
+abbrev pub FailureIsHeld : Type 0
+FailureIsHeld =
+    (s : Replaying) (got : Shown) → IsNone s.failure
+    → (IsNone (replays got s).0 ↔ IsSome (replays got s).1.failure) × (((finishes s).0 ≡ false) ↔ IsSome (finishes s).1.failure)

@@ -61,6 +61,7 @@ abbrev pub ◌>>=◌ : {X Y : Type 0} → Option X → (X → Option Y) → Opti
 Some x >>= f = f x
 None >>= f = None
 
+-- The byte of a space (this project's own).
 abbrev pub is_space : ℕ → Bool
 is_space b = b == 32
 
@@ -80,6 +81,7 @@ number_in low high text = number_that low high text (digits_value 10 text)
 unfoldable pub wave_named : List ℕ → Option Wave
 wave_named word = find (λ wave. same_bytes word (wave_letter wave)) (AShort ∷ ABare ∷ A ∷ B ∷ [])
 
+-- Bytes that were spelled, if a frame can have so many (this project's own).
 abbrev pub frame_within : Result (List ℕ) FromHexError → Option (List ℕ)
 frame_within (Ok bytes) = if nat_le 1 (length bytes) && nat_le (length bytes) 256 then Some bytes else None
 frame_within (Err e) = None
@@ -121,9 +123,11 @@ read_shown text = do
   wait ← number_in 0 16384 fourth.0
   Some (record { lane = lane; wave = wave; frame = frame; wait = wait }, fourth.1)
 
+-- What stands after the first word, which marks a trace line (this project's own).
 abbrev pub after_mark : List ℕ × List ℕ → Option (List ℕ)
 after_mark parts = if same_bytes parts.0 (codes "x") then Some parts.1 else None
 
+-- What was sent, with what the rest says was heard (this project's own).
 abbrev pub with_heard : Shown × List ℕ → Option Traced
 with_heard parts = do
   heard ← heard_spelled parts.0.wave parts.1

@@ -1,3 +1,4 @@
+pub mod Failing
 pub mod HexText
 pub mod Parts
 pub mod Spelt

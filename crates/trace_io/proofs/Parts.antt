@@ -111,13 +111,16 @@ heard_is sent text h got = silence (same_bytes text (codes "-")) refl got where
   sign heard spelt e =
       let is : heard ≡ h = cc e in
       subst (λ x. SpellsHeard sent text x) is spelt
+
   overlap : (b : Bool) → same_bytes text (codes "*") ≡ b → (if b then Some Overlap else framed_spelled (answer_wave sent) text) ≡ Some h → SpellsHeard sent text h
   overlap true is e = sign Overlap (same_text text (codes "*") (sym is)) e
   overlap false is e = framed_is sent text h e
+
   noise : (b : Bool) → same_bytes text (codes "?") ≡ b
       → (if b then Some Noise else (if same_bytes text (codes "*") then Some Overlap else framed_spelled (answer_wave sent) text)) ≡ Some h → SpellsHeard sent text h
   noise true is e = sign Noise (same_text text (codes "?") (sym is)) e
   noise false is e = overlap (same_bytes text (codes "*")) refl e
+
   silence : (b : Bool) → same_bytes text (codes "-") ≡ b
       → (if b then Some Silence else (if same_bytes text (codes "?") then Some Noise
       else (if same_bytes text (codes "*") then Some Overlap else framed_spelled (answer_wave sent) text))) ≡ Some h → SpellsHeard sent text h

@@ -10,7 +10,7 @@ mod pieces;
 mod reading;
 mod replay;
 
-pub use laws::{one_reading, written_is_read};
+pub use laws::{fails_for_good, failure_is_held, one_reading, written_is_read};
 pub use line::{Shown, TraceLine, trace_line};
 pub use mismatch::Mismatch;
 pub use reading::read_trace_line;
