@@ -2,7 +2,7 @@
 use Rattle.std.proofs.Common.{◌≡◌, Bool, true, false, Option, Some, None, IsSome, IsNone, ◌↔◌, if◌then◌else◌, is_some, refl, sym, ◌∙◌}
 use Rattle.ep_base.specs.Hearing.{Hearing}
 use Rattle.ep_base.specs.TraceLine.{Shown, Traced}
-use Rattle.ep_base.specs.ReplayRun.{Mismatch, Replaying, compared, ends_unless, failing, finishes, left_over, next_line, replays, same_shown, sends_unless, took, FailsForGood, FailureIsHeld}
+use Rattle.ep_base.specs.ReplayRun.{Mismatch, Replaying, compared, ends_unless, failing, left_over, next_line, same_shown, sends_unless, took, FailsForGood, FailureIsHeld}
 
 pub fails_for_good : FailsForGood
 fails_for_good s got some = by_failure s.failure some where

@@ -1,5 +1,5 @@
 -- A text that is read spells what is read.
-use Rattle.std.proofs.Common.{◌≡◌, ℕ, ◌<◌, ◌≤◌, ◌+◌, ◌==◌, ◌&&◌, nat_le, nat_lt, List, [], ◌∷◌, ◌++◌, length, codes, Bool, true, false, cond, find, Option, Some, None, Result, Ok, Err, if◌then◌else◌, refl, ap, subst, sym, ◌∙◌, arith, decimal, append_assoc}
+use Rattle.std.proofs.Common.{◌≡◌, ℕ, ◌<◌, ◌≤◌, ◌==◌, ◌&&◌, nat_le, nat_lt, List, [], ◌∷◌, ◌++◌, length, codes, Bool, true, false, cond, find, Option, Some, None, Result, Ok, Err, if◌then◌else◌, refl, ap, subst, sym, ◌∙◌, arith, decimal}
 use Rattle.std.specs.List.{position_or_len, before_first, after_first}
 use Rattle.std.specs.Str.Parse.{digits_value}
 use Rattle.std.specs.Cmp.Lexicographic.{same_text}
@@ -14,7 +14,7 @@ use Rattle.ep_base.specs.declared.air.Wave.TheVariants.{AShort, ABare, A, B}
 use Rattle.ep_base.specs.Apdu.{same_bytes}
 use Rattle.ep_base.specs.Hearing.{Hearing, Silence, Noise, Overlap, Frame}
 use Rattle.ep_base.specs.TraceForm.{SpellsFrame, SpellsHeard, SpellsLine}
-use Rattle.ep_base.specs.TraceLine.{◌>>=◌, Shown, Traced, cut, is_space, number_that, number_in, wave_letter, wave_named, frame_within, frame_spelled, after_equals, framed_spelled, heard_spelled, answer_wave, after_mark, with_heard, read_shown, read_trace_line}
+use Rattle.ep_base.specs.TraceLine.{◌>>=◌, Shown, Traced, cut, is_space, number_in, wave_letter, wave_named, frame_within, frame_spelled, after_equals, framed_spelled, heard_spelled, answer_wave, after_mark, read_shown, read_trace_line}
 use Rattle.trace_io.proofs.Spelt.{leaning}
 use Rattle.trace_io.proofs.Taken.{is_that, that_is}
 

@@ -1,16 +1,14 @@
 -- A text that spells an exchange is read as it.
-use Rattle.std.proofs.Common.{◌≡◌, ℕ, ◌<◌, ◌≤◌, ◌+◌, ◌^◌, ◌==◌, ◌&&◌, nat_le, List, [], ◌∷◌, ◌++◌, length, codes, Bool, true, false, Option, Some, None, Ok, Err, if◌then◌else◌, refl, sym, ◌∙◌, arith, decimal, append_assoc}
-use Rattle.std.specs.Str.Parse.{digits_value}
+use Rattle.std.proofs.Common.{◌≡◌, ℕ, ◌<◌, ◌≤◌, ◌^◌, ◌&&◌, nat_le, List, [], ◌∷◌, ◌++◌, length, codes, true, Some, refl, ◌∙◌, arith, decimal, append_assoc}
 use Rattle.std.proofs.lemmas.Bool.Decides.{nat_tests}
 use Rattle.std.proofs.lemmas.Fmt.{decimal_is_IsNumeral}
-use Rattle.hex.specs.Hex.{decode_of, encode_lower}
+use Rattle.hex.specs.Hex.{encode_lower}
 use Rattle.hex.proofs.HexLemmas.{decode_of-encode_lower}
 use Rattle.ep_base.specs.declared.air.Wave.{Wave}
 use Rattle.ep_base.specs.declared.air.Wave.TheVariants.{AShort, ABare, A, B}
 use Rattle.ep_base.specs.Hearing.{Hearing, Silence, Noise, Overlap, Frame}
 use Rattle.ep_base.specs.TraceForm.{SpellsFrame, SpellsHeard, SpellsLine, HoldsFrame, HoldsHeard, HoldsLine}
-use Rattle.ep_base.specs.TraceLine.{Shown, Traced, number_that, number_in, wave_letter, wave_named, frame_spelled, heard_spelled, heard_text, answer_wave, read_shown, read_trace_line, trace_text}
-use Rattle.ep_base.specs.Apdu.{same_bytes}
+use Rattle.ep_base.specs.TraceLine.{Shown, Traced, number_that, number_in, wave_letter, wave_named, frame_spelled, heard_spelled, heard_text, read_shown, read_trace_line, trace_text}
 use Rattle.rf_frame.proofs.Opening.{same_bytes as same_as_itself}
 use Rattle.trace_io.proofs.Words.{NoSpace, cut_word, decimal_has_none, hex_has_none}
 

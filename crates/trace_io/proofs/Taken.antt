@@ -1,5 +1,5 @@
 -- What is read of a field.
-use Rattle.std.proofs.Common.{◌≡◌, ◌≢◌, ℕ, ◌<◌, ◌≤◌, ◌^◌, ◌*◌, ◌/◌, ◌&&◌, ◌==◌, ◌⊎◌, inl, inr, nat_le, List, [], ◌∷◌, length, Bool, Option, Result, Ok, Err, Some, None, true, false, if◌then◌else◌, refl, sym, ◌∙◌, subst, arith, decimal, MatchOption, option_map}
+use Rattle.std.proofs.Common.{◌≡◌, ◌≢◌, ℕ, ◌<◌, ◌≤◌, ◌^◌, ◌*◌, ◌/◌, ◌&&◌, ◌==◌, ◌⊎◌, nat_le, List, [], ◌∷◌, length, Bool, Option, Result, Ok, Err, Some, None, true, false, if◌then◌else◌, refl, sym, ◌∙◌, subst, arith, decimal, MatchOption, option_map}
 use Rattle.std.specs.Borrow.{Bor}
 use Rattle.std.specs.Str.Parse.{digits_value, ParsesUnsigned}
 use Rattle.std.specs.Cmp.Lexicographic.{same_text}

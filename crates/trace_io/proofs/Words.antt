@@ -1,6 +1,6 @@
 -- Words of a line, and the spaces between them.
-use Rattle.std.proofs.Common.{◌≡◌, ℕ, ◌<◌, ◌≤◌, ◌+◌, ◌^◌, ◌==◌, nat_lt, List, [], ◌∷◌, ◌++◌, length, take, drop, Bool, true, false, not, cond, Option, Some, None, if◌then◌else◌, refl, sym, ◌∙◌, arith, decimal}
-use Rattle.std.specs.List.{position_or_len, prefix_len, AllPass}
+use Rattle.std.proofs.Common.{◌≡◌, ℕ, ◌<◌, ◌+◌, ◌^◌, ◌==◌, nat_lt, List, [], ◌∷◌, ◌++◌, length, take, drop, Bool, true, false, not, cond, Some, refl, ◌∙◌, arith, decimal}
+use Rattle.std.specs.List.{position_or_len, AllPass}
 use Rattle.std.specs.Str.Parse.{AllDigits}
 use Rattle.std.proofs.lemmas.Bool.{eqb-true}
 use Rattle.std.proofs.lemmas.Bool.Decides.{nat_tests}

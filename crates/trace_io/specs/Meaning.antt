@@ -1,5 +1,4 @@
 -- What the values of a trace mean, in plain data.
-use Rattle.std.specs.Prelude.{ℕ, Option, Some, None}
 use Rattle.ep_base.specs.TraceLine.{Traced}
 use Rattle.rf_frame.specs.Meaning.{heard_of}
 use Rattle.trace_io.specs.declared.line.TraceLine.{TraceLine}

@@ -1,6 +1,5 @@
-use Rattle.std.proofs.Common.{◌≡◌, ◌∙◌, ◌<◌, ◌^◌, Ok, Err, arith}
-use Rattle.ep_base.specs.TraceLine.{number_in}
-use Rattle.trace_io.proofs.Taken.{taken, number_taken}
+use Rattle.std.proofs.Common.{◌∙◌, ◌<◌, ◌^◌, arith}
+use Rattle.trace_io.proofs.Taken.{number_taken}
 use Rattle.trace_io.proofs.fields.number_in.Goals as goal
 
 pub returns-in-Ok-clause-value : goal.returns-in-Ok-clause-value
