@@ -44,10 +44,13 @@ pub mod Polling
 pub mod Radio
 pub mod Reading
 pub mod ReportLine
+pub mod ReplayRun
 pub mod Round
 pub mod Said
 pub mod Spelling
 pub mod Talk
+pub mod TraceForm
+pub mod TraceLine
 pub mod Transport
 pub mod TransportRun
 pub mod TypeA

@@ -1,0 +1,8 @@
+-- What the values of a trace mean, in plain data.
+use Rattle.ep_base.specs.TraceLine.{Traced}
+use Rattle.rf_frame.specs.Meaning.{heard_of}
+use Rattle.trace_io.specs.declared.line.TraceLine.{TraceLine}
+
+-- An exchange.
+abbrev pub traced_of : TraceLine → Traced
+traced_of line = record { sent = line.sent; heard = heard_of line.heard }
