@@ -120,6 +120,7 @@ impl RawBlock {
         ensures bytes { self.new.bytes ≡ slid from to len self.old.bytes }
         ensures room { self.new.cap ≡ self.old.cap }
     {
+        let _filled = self.len;
         for i in 0..len {
             let byte = self.get(from + i);
             self.set(to + i, byte);
