@@ -7,16 +7,18 @@ pub record Block : Type 0 where
   pub bytes : List ℕ
   pub cap : ℕ
 
-abbrev pub block_of : List ℕ → ℕ → Block
-block_of bytes cap = record { bytes = bytes; cap = cap }
+-- a block of these bytes and this room (this project's own)
+abbrev pub block : List ℕ → ℕ → Block
+block bytes cap = record { bytes = bytes; cap = cap }
 
+-- its bytes and its room tell a block (this project's own)
 abbrev pub block_code : Coded Block
-block_code = code_by (List ℕ × ℕ) (coded× (coded_list coded_ℕ) coded_ℕ) (λ b. (b.bytes, b.cap)) (λ p. block_of p.0 p.1) (λ _. refl)
+block_code = code_by (List ℕ × ℕ) (coded× (coded_list coded_ℕ) coded_ℕ) (λ b. (b.bytes, b.cap)) (λ p. block p.0 p.1) (λ _. refl)
 
 -- the len bytes from the place at on (this project's own)
-abbrev pub piece_at : ℕ → ℕ → List ℕ → List ℕ
-piece_at at len bytes = take len (drop at bytes)
+abbrev pub run : ℕ → ℕ → List ℕ → List ℕ
+run at len bytes = take len (drop at bytes)
 
 -- a copy of the len bytes from the place from on stands from the place to on, and all other bytes stay (this project's own)
 abbrev pub slid : ℕ → ℕ → ℕ → List ℕ → List ℕ
-slid from to len bytes = take to bytes ++ (piece_at from len bytes ++ drop (to + len) bytes)
+slid from to len bytes = take to bytes ++ (run from len bytes ++ drop (to + len) bytes)

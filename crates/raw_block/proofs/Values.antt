@@ -20,12 +20,12 @@ use denote.Struct.Tuple.{Tuple, tuple_type}
 abbrev pub of_fields : List RattleType → RattleType
 of_fields Rs = Struct (record { name = []; args = []; types = []; fields = Rs })
 
-abbrev pub base_val : Ptr → Val
-base_val p = vstruct (vcons (ptr_val p) vnil)
+abbrev pub pointer_val : Ptr → Val
+pointer_val p = vstruct (vcons (ptr_val p) vnil)
 
-pub base_typed : (p : Ptr) → T (has_ty (ty_struct [] (tcons ty_ptr tnil)) (base_val p)) × WT (base_val p)
-base_typed (block_ptr b o) = (tt, (tt, tt))
-base_typed null_ptr = (tt, (record { fits = lit< tt }, tt))
+pub pointer_typed : (p : Ptr) → T (has_ty (ty_struct [] (tcons ty_ptr tnil)) (pointer_val p)) × WT (pointer_val p)
+pointer_typed (block_ptr b o) = (tt, (tt, tt))
+pointer_typed null_ptr = (tt, (record { fits = lit< tt }, tt))
 
 abbrev pub owner_val : Val
 owner_val = vstruct (vcons (vstruct vnil) vnil)
@@ -34,8 +34,8 @@ pub owner_told : (vs : List Val) → shadow ((of_fields (of_fields [] ∷ [])).o
 owner_told vs s = s.1.0 ∙ (λ i. vstruct (of_list (s.1.1.0.1.0 i ++ [])) ∷ [])
 
 module _ {M : Type 1} {𝓤 : Ura M} (𝓛 : Logic 𝓤) where
-  pub base_made : (p : Ptr) → ent 𝓤 (emp 𝓤) (sem 𝓛 ((of_fields (RawPtr ∷ [])).own_val (p, tt) (base_val p ∷ [])))
-  base_made p = makes_shadow 𝓛 ((of_fields (RawPtr ∷ [])).own_val (p, tt) (base_val p ∷ [])) (λ _. (tt, (tt, tt))) ((ptr_val p ∷ [], tt), (refl, (refl, tt)))
+  pub pointer_made : (p : Ptr) → ent 𝓤 (emp 𝓤) (sem 𝓛 ((of_fields (RawPtr ∷ [])).own_val (p, tt) (pointer_val p ∷ [])))
+  pointer_made p = makes_shadow 𝓛 ((of_fields (RawPtr ∷ [])).own_val (p, tt) (pointer_val p ∷ [])) (λ _. (tt, (tt, tt))) ((ptr_val p ∷ [], tt), (refl, (refl, tt)))
 
   pub owner_made : ent 𝓤 (emp 𝓤) (sem 𝓛 ((of_fields (of_fields [] ∷ [])).own_val (tt, tt) (owner_val ∷ [])))
   owner_made = makes_shadow 𝓛 ((of_fields (of_fields [] ∷ [])).own_val (tt, tt) (owner_val ∷ [])) (λ _. (tt, ((λ _. (tt, tt)), tt))) ((vstruct vnil ∷ [], tt), (refl, ((tt, (refl, tt)), tt)))

@@ -1,4 +1,4 @@
--- Which places of a block hold bytes.
+-- Which places of a block hold bytes (this project's own).
 use Rattle.std.specs.Prelude.{◌≡◌, ℕ, ◌≤◌, List, [], ◌∷◌, map, length, take, Option, Some, None}
 use denote.RawPtr.{Ptr}
 

@@ -1,4 +1,4 @@
--- What the parts of a raw block own and lend: its places, byte by byte, and the right to free them.
+-- The memory behind a raw block: what each place of it is, what a `&` has of it, and what the deed is (this project's own).
 use Rattle.std.specs.Prelude.{ℕ, ◌+◌, List, [], ◌∷◌, Option, Some, None}
 use base.Fraction.{full_share}
 use base.Fml.{Lft, Fml, ftrue, ffalse, fsep, froom}

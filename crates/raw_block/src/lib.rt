@@ -5,13 +5,13 @@
 #![tactic(auto)]
 
 ghost use Rattle.std.specs.Prelude.{◌≡◌, ℕ, ◌+◌, ◌≤◌, ◌<◌, [], ◌∷◌, ◌++◌, length, take, slice_set, slice_get, Some, IfOk};
-ghost use Rattle.ep_base.specs.RawBytes.{block_of, piece_at, slid};
+ghost use Rattle.ep_base.specs.RawBytes.{block, run, slid};
 
 mod cells;
 
-// A contract can name a block only if the types of its fields are exported.
+// For contracts of other crates, which read the fields of a block through its view.
 #[doc(hidden)]
-pub use cells::{Base, Cells, Deed};
+pub use cells::{Cells, Deed, Pointer};
 use cells::{allocate, deallocate};
 use ep_base::NoMemory;
 use std::alloc::Global;
@@ -19,7 +19,7 @@ use std::marker::Model;
 
 /// At most `cap` bytes in one piece of memory, of which the first `len` are filled.
 pub struct RawBlock {
-    base: Base,
+    pointer: Pointer,
     cells: Cells,
     deed: Deed<Global>,
     len: usize,
@@ -29,16 +29,16 @@ pub struct RawBlock {
 
 impl Model for RawBlock {
     ghost use Rattle.std.specs.Prelude.{◌≡◌, ◌≤◌, length, take};
-    ghost use Rattle.ep_base.specs.RawBytes.{Block, block_of, block_code};
+    ghost use Rattle.ep_base.specs.RawBytes.{Block, block, block_code};
     ghost use Rattle.raw_block.specs.Filling.{filled, IsFilledTo};
 
     ghost Value = { Block };
 
     ghost coded = { block_code };
 
-    ghost view = { λ b. block_of (filled (take b.len b.cells.slots)) b.cap };
+    ghost view = { λ b. block (filled (take b.len b.cells.slots)) b.cap };
 
-    ghost invariant = { λ b. (b.cells.at ≡ b.base.ptr) × (length b.cells.slots ≡ b.cap) × (b.deed.at ≡ b.base.ptr) × (b.deed.len ≡ b.cap) × (b.deed.alloc ≡ b.alloc) × IsFilledTo b.len b.cells.slots × (b.len ≤ b.cap) × (1 ≤ b.cap) × (b.cap ≤ 65536) };
+    ghost invariant = { λ b. (b.cells.at ≡ b.pointer.ptr) × (length b.cells.slots ≡ b.cap) × (b.deed.at ≡ b.pointer.ptr) × (b.deed.len ≡ b.cap) × (b.deed.alloc ≡ b.alloc) × IsFilledTo b.len b.cells.slots × (b.len ≤ b.cap) × (1 ≤ b.cap) × (b.cap ≤ 65536) };
 }
 
 impl RawBlock {
@@ -48,11 +48,11 @@ impl RawBlock {
     pub fn open(alloc: Global, cap: usize) -> Result<RawBlock, NoMemory>
         requires least { 1 ≤ cap }
         requires most { cap ≤ 65536 }
-        ensures empty { IfOk result (λ block. block ≡ block_of [] cap) }
+        ensures { IfOk result (λ b. b ≡ block [] cap) }
     {
         match allocate(&alloc, cap) {
-            Ok((base, cells, deed)) => Ok(RawBlock {
-                base,
+            Ok((pointer, cells, deed)) => Ok(RawBlock {
+                pointer,
                 cells,
                 deed,
                 len: 0,
@@ -73,28 +73,31 @@ impl RawBlock {
 
     /// How many bytes there is room for.
     pub fn cap(&self) -> usize
-        ensures room { result ≡ self.now.cap }
+        ensures cap { result ≡ self.now.cap }
         ensures least { 1 ≤ result }
         ensures most { result ≤ 65536 }
     {
         self.cap
     }
 
+    /// Adds one byte at the end.
     fn push(&mut self, byte: u8)
         requires { length self.old.bytes < self.old.cap }
-        ensures { self.new ≡ block_of (self.old.bytes ++ byte ∷ []) self.old.cap }
+        ensures { self.new ≡ block (self.old.bytes ++ byte ∷ []) self.old.cap }
     {
-        self.cells.write(self.base, self.len, byte);
+        self.cells.write(self.pointer, self.len, byte);
         self.len += 1;
     }
 
+    /// Writes a byte over a filled one.
     fn set(&mut self, at: usize, byte: u8)
         requires { at < length self.old.bytes }
-        ensures { self.new ≡ block_of (slice_set self.old.bytes at byte) self.old.cap }
+        ensures { self.new ≡ block (slice_set self.old.bytes at byte) self.old.cap }
     {
-        self.cells.write(self.base, at, byte);
+        self.cells.write(self.pointer, at, byte);
     }
 
+    /// The byte at this place.
     fn get(&self, at: usize) -> u8
         requires { at < length self.now.bytes }
         ensures { slice_get self.now.bytes at ≡ Some result }
@@ -105,8 +108,7 @@ impl RawBlock {
     /// Adds the bytes of `piece` at the end, where there is room for them.
     pub fn append(&mut self, piece: &[u8])
         requires fits { length self.old.bytes + length piece.now ≤ self.old.cap }
-        ensures bytes { self.new.bytes ≡ self.old.bytes ++ piece.now }
-        ensures room { self.new.cap ≡ self.old.cap }
+        ensures { self.new ≡ block (self.old.bytes ++ piece.now) self.old.cap }
     {
         for byte in piece {
             self.push(*byte);
@@ -117,9 +119,9 @@ impl RawBlock {
     pub fn slide(&mut self, from: usize, to: usize, len: usize)
         requires down { to ≤ from }
         requires within { from + len ≤ length self.old.bytes }
-        ensures bytes { self.new.bytes ≡ slid from to len self.old.bytes }
-        ensures room { self.new.cap ≡ self.old.cap }
+        ensures { self.new ≡ block (slid from to len self.old.bytes) self.old.cap }
     {
+        // A proof knows the bounds of the block once a field has been read.
         let _filled = self.len;
         for i in 0..len {
             let byte = self.get(from + i);
@@ -130,8 +132,7 @@ impl RawBlock {
     /// Keeps the first `top` bytes alone.
     pub fn cut(&mut self, top: usize)
         requires within { top ≤ length self.old.bytes }
-        ensures bytes { self.new.bytes ≡ take top self.old.bytes }
-        ensures room { self.new.cap ≡ self.old.cap }
+        ensures { self.new ≡ block (take top self.old.bytes) self.old.cap }
     {
         self.len = top;
     }
@@ -139,23 +140,23 @@ impl RawBlock {
     /// The `len` bytes from place `at` on.
     pub fn view(&self, at: usize, len: usize) -> &[u8]
         requires within { at + len ≤ length self.now.bytes }
-        ensures bytes { result.now ≡ piece_at at len self.now.bytes }
+        ensures { result.now ≡ run at len self.now.bytes }
     {
-        self.cells.slice(self.base, at, len)
+        self.cells.slice(self.pointer, at, len)
     }
 }
 
 impl Drop for RawBlock {
     fn drop(self) {
         let RawBlock {
-            base,
+            pointer,
             cells,
             deed,
             len: _,
             cap,
             alloc,
         } = self;
-        deallocate(&alloc, base, cap, cells, deed);
+        deallocate(&alloc, pointer, cap, cells, deed);
     }
 }
 

@@ -1,5 +1,5 @@
 use Rattle.std.proofs.Common.{◌≡◌, ◌≤◌, Some, map, length, take, ap, ◌∙◌, arith}
-use Rattle.ep_base.specs.RawBytes.{Block}
+use Rattle.ep_base.specs.RawBytes.{Block, block}
 use Rattle.raw_block.specs.Filling.{filled}
 use Rattle.raw_block.proofs.RawBlock.cut.Goals as goal
 use Rattle.raw_block.proofs.Bytes.{of_run, shortened, count}
@@ -10,11 +10,11 @@ held c = c.self.invariant.5 ∙ ap (λ (b : Block). map Some b.bytes) c.self.vie
 low : (c : goal.After-self-1) → c.args.top ≤ c.self.inside.len
 low c = let inv = c.self.invariant in omega (arith, c.requires.within, count c.self.inside.cells.slots c.self.inside.len c.args.self.now.bytes (held c) (omega (arith, inv.1, inv.6)))
 
-run : (c : goal.After-self-1) → (take c.args.top c.self.inside.cells.slots ≡ map Some (filled (take c.args.top c.self.inside.cells.slots))) × (filled (take c.args.top c.self.inside.cells.slots) ≡ take c.args.top c.args.self.now.bytes)
-run c = of_run (take c.args.top c.self.inside.cells.slots) (take c.args.top c.args.self.now.bytes) (shortened c.self.inside.cells.slots c.self.inside.len c.args.self.now.bytes (held c) c.args.top (low c))
+after : (c : goal.After-self-1) → (take c.args.top c.self.inside.cells.slots ≡ map Some (filled (take c.args.top c.self.inside.cells.slots))) × (filled (take c.args.top c.self.inside.cells.slots) ≡ take c.args.top c.args.self.now.bytes)
+after c = of_run (take c.args.top c.self.inside.cells.slots) (take c.args.top c.args.self.now.bytes) (shortened c.self.inside.cells.slots c.self.inside.len c.args.self.now.bytes (held c) c.args.top (low c))
 
 pub invariant_of-self : goal.invariant_of-self
-invariant_of-self c = let inv = c.self.invariant in (inv.0, inv.1, inv.2, inv.3, inv.4, (run c).0, omega (arith, low c, inv.6), inv.7, inv.8)
+invariant_of-self c = let inv = c.self.invariant in (inv.0, inv.1, inv.2, inv.3, inv.4, (after c).0, omega (arith, low c, inv.6), inv.7, inv.8)
 
-pub returns-clause-bytes : goal.returns-clause-bytes
-returns-clause-bytes c = (run c).1
+pub returns : goal.returns
+returns c = let room : c.self.inside.cap ≡ c.args.self.now.cap = ap (λ (b : Block). b.cap) c.self.view_is in λ i. block ((after c).1 i) (room i)

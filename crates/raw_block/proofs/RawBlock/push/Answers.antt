@@ -1,6 +1,6 @@
 use Rattle.std.proofs.Common.{◌≡◌, ℕ, ◌+◌, ◌<◌, [], ◌∷◌, ◌++◌, Some, map, length, take, ap, ◌∙◌, arith}
 use Rattle.std.proofs.lemmas.List.{length-set}
-use Rattle.ep_base.specs.RawBytes.{Block, block_of}
+use Rattle.ep_base.specs.RawBytes.{Block, block}
 use Rattle.raw_block.specs.Filling.{filled}
 use Rattle.raw_block.proofs.RawBlock.push.Goals as goal
 use Rattle.raw_block.proofs.Bytes.{of_run, pushed, count}
@@ -12,15 +12,15 @@ below : (c : goal.After-self-1) → c.self.inside.len < length c.self.inside.cel
 below c = let inv = c.self.invariant in let room : c.self.inside.cap ≡ c.args.self.now.cap = ap (λ (b : Block). b.cap) c.self.view_is in
     omega (arith, c.requires, count c.self.inside.cells.slots c.self.inside.len c.args.self.now.bytes (held c) (omega (arith, inv.1, inv.6)), room, inv.1)
 
-run : (c : goal.After-self-1) → (take (c.self.inside.len + 1) c.write.new.self.slots ≡ map Some (filled (take (c.self.inside.len + 1) c.write.new.self.slots)))
+after : (c : goal.After-self-1) → (take (c.self.inside.len + 1) c.write.new.self.slots ≡ map Some (filled (take (c.self.inside.len + 1) c.write.new.self.slots)))
     × (filled (take (c.self.inside.len + 1) c.write.new.self.slots) ≡ c.args.self.now.bytes ++ c.args.byte ∷ [])
-run c = let n = c.self.inside.len in let xs = c.args.self.now.bytes in
+after c = let n = c.self.inside.len in let xs = c.args.self.now.bytes in
     of_run (take (n + 1) c.write.new.self.slots) (xs ++ c.args.byte ∷ []) (ap (take (n + 1)) c.write.ensures.1 ∙ pushed c.self.inside.cells.slots n xs (held c) c.args.byte (below c))
 
 pub invariant_of-self : goal.invariant_of-self
 invariant_of-self c = let inv = c.self.invariant in let wrote = c.write.ensures in
     let long : length c.write.new.self.slots ≡ c.self.inside.cap = ap length wrote.1 ∙ length-set c.self.inside.cells.slots c.self.inside.len (Some c.args.byte) ∙ inv.1 in
-    (wrote.0 ∙ inv.0, long, inv.2, inv.3, inv.4, (run c).0, omega (arith, below c, inv.1), inv.7, inv.8)
+    (wrote.0 ∙ inv.0, long, inv.2, inv.3, inv.4, (after c).0, omega (arith, below c, inv.1), inv.7, inv.8)
 
 pub returns : goal.returns
-returns c = let room : c.self.inside.cap ≡ c.args.self.now.cap = ap (λ (b : Block). b.cap) c.self.view_is in λ i. block_of ((run c).1 i) (room i)
+returns c = let room : c.self.inside.cap ≡ c.args.self.now.cap = ap (λ (b : Block). b.cap) c.self.view_is in λ i. block ((after c).1 i) (room i)

@@ -15,4 +15,4 @@ returns c =
     let cs = c.self.inside.cells.slots in let n = c.self.inside.len in let xs = c.args.self.now.bytes in let inv = c.self.invariant in
     let held : take n cs ≡ map Some xs = inv.5 ∙ ap (λ (b : Block). map Some b.bytes) c.self.view_is in
     let within : c.args.at + c.args.len ≤ n = omega (arith, c.requires.within, count cs n xs held (omega (arith, inv.1, inv.6))) in
-    record { bytes = c.slice.ensures ∙ (viewed cs n xs held c.args.at c.args.len within).1 }
+    c.slice.ensures ∙ (viewed cs n xs held c.args.at c.args.len within).1

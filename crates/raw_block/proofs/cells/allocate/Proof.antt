@@ -1,4 +1,4 @@
--- `allocate` cuts the new memory into empty places, and keeps the right to free it. Assumes `Logic`.
+-- `allocate` reads new memory as a row of places without bytes; the leave to free it goes into the deed. Assumes `Logic`.
 use Rattle.raw_block.proofs.Steps.{◌≡◌, ℕ, ◌^◌, ◌<◌, ◌≤◌, List, [], ◌∷◌, ◌++◌, None, replicate, refl, ◌∙◌, lit<, w64, arith, proved_at, leaves, after, SProp, emp, id⊢, Lft, Share, ftrue, flft, Ty, Fn, Args, a_type, dcons, dnil, Val, vint, vptr, vcons, vnil, vstruct, Env, WpFn, fact, fact_i, tables, ‵, raw, ◌⊛◌, prop, at_ret, later, await, ◌$◌, ◌∵◌, !, qed, by, move, drop, use0, use1, use2, use3, split, join, fsplit, fjoin, regoal, whole, agg, enter, of_opd, lit, stop, fld, first, exec, returns, and_then, no_more, alloc_all, pass_all, free_all, look_at, get, get_in, get_tag, sets, sets_last, lands_as, env, usize, RattleType, owns, Ptr, block_ptr, RefOf, plain, types_at, type_at, nothing, heard, alive, Stays, walk_of, stay_dropped, Goes-dropped}
 use mathlib.Core.Bool.{true, false}
 use mir.MapTy.{inst_fn}
@@ -27,9 +27,9 @@ use Rattle.std.proofs.ResultValues.{ok_of, err_of}
 use Rattle.std.proofs.RcSteps.{first_Good}
 use Rattle.raw_block.specs.Ownership.{bytes_ty, places}
 use Rattle.raw_block.proofs.Places.{of_room}
-use Rattle.raw_block.proofs.Values.{of_fields, base_val, base_typed, base_made, owner_val, owner_made, triple_val, triple_made}
+use Rattle.raw_block.proofs.Values.{of_fields, pointer_val, pointer_typed, pointer_made, owner_val, owner_made, triple_val, triple_made}
 use Rattle.raw_block.specs.contracts.cells.Cells.{the_row as Cr}
-use Rattle.raw_block.specs.contracts.cells.Base.{the_row as Bs}
+use Rattle.raw_block.specs.contracts.cells.Pointer.{the_row as Bs}
 use Rattle.raw_block.specs.contracts.cells.Deed as D
 use Rattle.raw_block.specs.contracts.cells.allocate as f
 use Rattle.raw_block.proofs.cells.allocate.Statement.{statement}
@@ -64,9 +64,9 @@ allocate_spec 𝓤 𝓛 𝓜 𝓡 wired A L g d dd met md =
     use1 𝓛 (later (raw (Answered Y 𝓛 𝓜.mem 𝓡.returns h τ v) ⊛ ‵ (flft κ q))) (Takes-gives Y 𝓛 𝓜.mem 𝓡.returns κ q lies h n 1 τ v) $ await ! tt $ split ! $
     answers Y ! 𝓜.mem 𝓡.returns h τ v
     (λ b o e.
-    let p : Ptr = block_ptr b o in let base : (Bs).Denot = record { ptr = p } in
+    let p : Ptr = block_ptr b o in let pointer : (Bs).Denot = record { ptr = p } in
     let cells : (Cr).Denot = record { mark = record {}; at = p; slots = replicate n None } in let deed : Dd.Denot = record { mark = record {}; at = p; len = n; alloc = h } in
-    let made : Val = triple_val (base_val p) owner_val owner_val in
+    let made : Val = triple_val (pointer_val p) owner_val owner_val in
     -- [room for the bytes; the right to free them; the token; the other tokens]
     move ! (2 ∷ 3 ∷ []) $ join ! $ move ! (1 ∷ 2 ∷ []) $ lands_as ! e refl (Answer-typed true b o) $
     first ! $ switches_on ! (get_tag ! (vrt ! refl (fld ! refl (stop !))) (whole !)) $ exec ! C Λ En (arm_body 0 (head (after 1 fn.body))) Then $
@@ -79,12 +79,12 @@ allocate_spec 𝓤 𝓛 𝓜 𝓡 wired A L g d dd met md =
     exec ! C Λ En (after 2 fn.body) (at_ret En Post) $ sets ! (of_opd ! (get ! refl)) refl (tt, (record { fits = lit< tt }, (((tt, tt), ((tt, tt), ((tt, tt), tt))), tt))) $
     returns ! (look_at ! 0 refl) $ free_all ! refl $
     use1 𝓛 (‵ (places b o (replicate n None))) (of_room 𝓛 b n o) $ use0 𝓛 (‵ ((of_fields (of_fields [] ∷ [])).own_val (tt, tt) (owner_val ∷ []))) (owner_made 𝓛) $ fjoin ! $ move ! (1 ∷ []) $
-    use0 𝓛 (‵ ((of_fields (of_fields [] ∷ [])).own_val (tt, tt) (owner_val ∷ []))) (owner_made 𝓛) $ fjoin ! $ use0 𝓛 (‵ ((of_fields (RawPtr ∷ [])).own_val (p, tt) (base_val p ∷ []))) (base_made 𝓛 p) $ move ! (0 ∷ 2 ∷ 1 ∷ []) $
-    use3 𝓛 (‵ (Three.own_val (base, cells, deed) (made ∷ []))) (triple_made 𝓛 Bs Cr Dd base cells deed (base_val p) owner_val owner_val) $
-    use1 𝓛 (‵ (Out.own_val (Ok (base, cells, deed)) (live 0 (vcons made vnil) ∷ []))) (ok_of 𝓛 Three AE.the_row (base, cells, deed) made) $
+    use0 𝓛 (‵ ((of_fields (of_fields [] ∷ [])).own_val (tt, tt) (owner_val ∷ []))) (owner_made 𝓛) $ fjoin ! $ use0 𝓛 (‵ ((of_fields (RawPtr ∷ [])).own_val (p, tt) (pointer_val p ∷ []))) (pointer_made 𝓛 p) $ move ! (0 ∷ 2 ∷ 1 ∷ []) $
+    use3 𝓛 (‵ (Three.own_val (pointer, cells, deed) (made ∷ []))) (triple_made 𝓛 Bs Cr Dd pointer cells deed (pointer_val p) owner_val owner_val) $
+    use1 𝓛 (‵ (Out.own_val (Ok (pointer, cells, deed)) (live 0 (vcons made vnil) ∷ []))) (ok_of 𝓛 Three AE.the_row (pointer, cells, deed) made) $
     let Got : Type 0 = (p ≡ p) × (replicate n None ≡ cells.slots) × (p ≡ p) × (n ≡ n) × (h ≡ h) in
     use0 𝓛 (raw (fact 𝓤 Got)) (fact_i 𝓤 Got (emp 𝓤) (refl, refl, refl, refl, refl)) $ nothing ! $ nothing ! $ fjoin ! $ nothing ! $ fjoin ! $ move ! (3 ∷ 0 ∷ 2 ∷ 1 ∷ []) $
-    by ! (leaves 𝓛 E stayed c z (live 0 (vcons made vnil)) (Ok (base, cells, deed)) (tt, (tt, tt)) (tt, (tt, tt))))
+    by ! (leaves 𝓛 E stayed c z (live 0 (vcons made vnil)) (Ok (pointer, cells, deed)) (tt, (tt, tt)) (tt, (tt, tt))))
     (λ e.
     let Refusal : RattleType = Struct (Declared.shape AE.the_type) in let none : Val = live 1 (vcons (vstruct vnil) vnil) in
     join ! $ lands_as ! e refl (Answer-typed false 0 0) $

@@ -1,4 +1,4 @@
--- A `&` to the places reaches each byte. Assumes `Logic`.
+-- What the holder of a `&` to the places has. Assumes `Logic`.
 use base.Fml.{Incl-refl}
 use denote.RawPtr.{RawPtr}
 use denote.Param.Shared.{copy_shared}
