@@ -1,6 +1,6 @@
 -- A place is taken out of the row and put back, a run of places is seen, and room for bytes is a row of places. Assumes `Logic`.
 use mathlib.Core.Path.{◌≡◌, refl, sym, ap, subst, ◌∙◌}
-use Prim.Native.Nat.{ℕ, zero, suc, ◌+◌, ◌<◌, ◌≤◌}
+use Prim.Native.Nat.{ℕ, zero, suc, ◌+◌, ◌<◌}
 use native.Mathlib.Omega.{arith}
 use mathlib.Core.List.{List, [], ◌∷◌, ◌++◌, map}
 use lib.ListN.{length, take, drop, set, replicate, take-append-drop}
@@ -8,10 +8,10 @@ use seplogic.Ra.Ura.{Ura}
 use base.Fraction.{full_share}
 use mir.Syntax.{w8}
 use mir.Val.{vint}
-use base.Logic.{ent, sep, emp, via, id⊢, mono_r, snd∗}
+use base.Logic.{ent, sep, via, id⊢, mono_r, snd∗}
 use base.Fml.{Lft, Fml, ftrue, fsep, fat, froom}
 use types.Logic.{Logic, sem}
-use types.Kit.{‵, ◌⊛◌, ◌$◌, ◌∵◌, !, qed, by, move, keep, drop as skip, use1, use2, split, frame, fsplit, fjoin, rewrite, done}
+use types.Kit.{‵, ◌⊛◌, ◌$◌, ◌∵◌, !, qed, by, move, keep, use1, use2, split, frame, fsplit, fjoin, rewrite, done}
 use denote.Builtin.{u8}
 use denote.Memory.{part_at}
 use denote.Plain.{uint_in, uint_out}

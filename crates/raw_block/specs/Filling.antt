@@ -1,6 +1,5 @@
 -- Which places of a block hold bytes (this project's own).
-use Rattle.std.specs.Prelude.{◌≡◌, ℕ, ◌≤◌, List, [], ◌∷◌, map, length, take, Option, Some, None}
-use denote.RawPtr.{Ptr}
+use Rattle.std.specs.Prelude.{◌≡◌, ℕ, List, [], ◌∷◌, map, take, Option, Some, None}
 
 -- the bytes that are there
 abbrev pub filled : List (Option ℕ) → List ℕ

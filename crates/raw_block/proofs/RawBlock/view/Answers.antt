@@ -1,4 +1,4 @@
-use Rattle.std.proofs.Common.{◌≡◌, ◌+◌, ◌≤◌, Some, map, length, take, drop, sym, ap, ◌∙◌, arith}
+use Rattle.std.proofs.Common.{◌≡◌, ◌+◌, ◌≤◌, Some, map, take, sym, ap, ◌∙◌, arith}
 use Rattle.ep_base.specs.RawBytes.{Block}
 use Rattle.raw_block.proofs.RawBlock.view.Goals as goal
 use Rattle.raw_block.proofs.Bytes.{viewed, count}

@@ -1,8 +1,7 @@
 -- `allocate` reads new memory as a row of places without bytes; the leave to free it goes into the deed. Assumes `Logic`.
-use Rattle.raw_block.proofs.Steps.{◌≡◌, ℕ, ◌^◌, ◌<◌, ◌≤◌, List, [], ◌∷◌, ◌++◌, None, replicate, refl, ◌∙◌, lit<, w64, arith, proved_at, leaves, after, SProp, emp, id⊢, Lft, Share, ftrue, flft, Ty, Fn, Args, a_type, dcons, dnil, Val, vint, vptr, vcons, vnil, vstruct, Env, WpFn, fact, fact_i, tables, ‵, raw, ◌⊛◌, prop, at_ret, later, await, ◌$◌, ◌∵◌, !, qed, by, move, drop, use0, use1, use2, use3, split, join, fsplit, fjoin, regoal, whole, agg, enter, of_opd, lit, stop, fld, first, exec, returns, and_then, no_more, alloc_all, pass_all, free_all, look_at, get, get_in, get_tag, sets, sets_last, lands_as, env, usize, RattleType, owns, Ptr, block_ptr, RefOf, plain, types_at, type_at, nothing, heard, alive, Stays, walk_of, stay_dropped, Goes-dropped}
+use Rattle.raw_block.proofs.Steps.{◌≡◌, ◌^◌, ◌<◌, ◌≤◌, List, [], ◌∷◌, ◌++◌, None, replicate, refl, ◌∙◌, lit<, w64, arith, proved_at, leaves, after, SProp, emp, id⊢, Lft, Share, ftrue, flft, Ty, Fn, Args, a_type, dcons, dnil, Val, vint, vptr, vcons, vnil, vstruct, Env, WpFn, fact, fact_i, tables, ‵, raw, ◌⊛◌, prop, at_ret, later, await, ◌$◌, ◌∵◌, !, qed, by, move, drop, use0, use1, use2, use3, split, join, fsplit, fjoin, regoal, whole, agg, enter, of_opd, lit, stop, fld, first, exec, returns, and_then, no_more, alloc_all, pass_all, free_all, look_at, get, get_in, get_tag, sets, sets_last, lands_as, env, usize, RattleType, owns, Ptr, block_ptr, RefOf, plain, types_at, type_at, nothing, heard, alive, Stays, walk_of, stay_dropped, Goes-dropped}
 use mathlib.Core.Bool.{true, false}
 use mir.MapTy.{inst_fn}
-use mir.Val.{has_ty, WT}
 use prog.Capped.{capped_is}
 use prog.Memory.{capped, size}
 use prog.Wp.{Wp, after_seq, at_return}
@@ -19,15 +18,14 @@ use denote.Struct.Declared as Declared
 use denote.Struct.Tuple.{Tuple}
 use denote.Triple.Call.{calls_at}
 use denote.Triple.Table.{framed}
-use Rattle.std.specs.Prelude.{IfOk, Ok, Err}
+use Rattle.std.specs.Prelude.{Ok, Err}
 use Rattle.std.specs.contracts.alloc.AllocError as AE
 use Rattle.std.proofs.alloc.Calls.{Al, seen, Answer-typed, Takes, at_takes, Answered, Takes-goes, Takes-gives, answers}
 use Rattle.std.proofs.VecSteps.Shapes.{head, arm_body}
 use Rattle.std.proofs.ResultValues.{ok_of, err_of}
-use Rattle.std.proofs.RcSteps.{first_Good}
 use Rattle.raw_block.specs.Ownership.{bytes_ty, places}
 use Rattle.raw_block.proofs.Places.{of_room}
-use Rattle.raw_block.proofs.Values.{of_fields, pointer_val, pointer_typed, pointer_made, owner_val, owner_made, triple_val, triple_made}
+use Rattle.raw_block.proofs.Values.{of_fields, pointer_val, pointer_made, owner_val, owner_made, triple_val, triple_made}
 use Rattle.raw_block.specs.contracts.cells.Cells.{the_row as Cr}
 use Rattle.raw_block.specs.contracts.cells.Pointer.{the_row as Bs}
 use Rattle.raw_block.specs.contracts.cells.Deed as D

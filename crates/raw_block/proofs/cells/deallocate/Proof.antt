@@ -1,5 +1,5 @@
 -- `deallocate` forgets the bytes: the places are memory again, and the allocator takes it with the leave to free it. Assumes `Logic`.
-use Rattle.raw_block.proofs.Steps.{◌≡◌, ℕ, ◌^◌, ◌<◌, ◌≤◌, List, [], ◌∷◌, ◌++◌, length, refl, ap, sym, subst, ◌∙◌, lit<, w64, arith, proved_at, leaves, after, SProp, never, id⊢, Lft, Share, ftrue, flft, Ty, Fn, Args, a_type, dcons, dnil, at_local, Val, vint, vptr, vunit, Env, WpFn, fact, tables, ‵, raw, ◌⊛◌, prop, at_ret, later, given, await, learn, settles, ◌$◌, ◌∵◌, !, qed, by, move, drop, use1, use3, split, join, fsplit, fsplit3, fjoin, feq_i, rewrite, regoal, whole, sub, enter, of_opd, lit, unit_lit, stop, fld, first, blocks, exec, returns, and_then, no_more, alloc_all, pass_all, free_all, look_at, get, get_in, sets, lands_last, env, usize, RattleType, owns, Ptr, block_ptr, in_a_block, RefOf, plain, types_at, nothing, heard, alive, Stays, walk_of, stay_dropped, Goes-dropped}
+use Rattle.raw_block.proofs.Steps.{◌≡◌, ℕ, ◌^◌, ◌<◌, ◌≤◌, List, [], ◌∷◌, ◌++◌, length, refl, ap, sym, subst, ◌∙◌, lit<, w64, arith, proved_at, leaves, after, SProp, never, id⊢, Lft, Share, ftrue, flft, Ty, Fn, Args, a_type, dcons, dnil, Val, vint, vptr, vunit, Env, WpFn, fact, tables, ‵, raw, ◌⊛◌, prop, at_ret, later, given, await, learn, ◌$◌, ◌∵◌, !, qed, by, move, drop, use1, split, join, fsplit, fjoin, feq_i, rewrite, regoal, whole, sub, enter, of_opd, lit, unit_lit, stop, fld, first, blocks, exec, returns, and_then, no_more, alloc_all, pass_all, free_all, look_at, get, get_in, sets, lands_last, env, usize, RattleType, owns, Ptr, block_ptr, in_a_block, RefOf, plain, types_at, nothing, heard, alive, Stays, walk_of, stay_dropped, Goes-dropped}
 use lib.Dec.{T}
 use mir.MapTy.{inst_fn}
 use mir.Syntax.{ty_unit}
@@ -8,13 +8,11 @@ use types.Kit.{group}
 use base.Fml.{froom}
 use prog.Capped.{capped_is}
 use prog.Memory.{capped, size}
-use prog.Wp.{Wp, after_seq, after_block, at_return}
 use contract.BorrowLft.{◌⊑◌, ⊑_trans}
-use types.Kit.{Post as After, any_q, post}
 use denote.Param.{param, bounded}
 use denote.Triple.Call.{calls_at_last}
 use denote.Triple.Table.{framed}
-use Rattle.std.proofs.alloc.Calls.{Al, seen, token, Goes-blank, Gives, at_gives, Gives-goes, Gives-Gives}
+use Rattle.std.proofs.alloc.Calls.{Al, seen, Goes-blank, Gives, at_gives, Gives-goes, Gives-Gives}
 use Rattle.raw_block.specs.Ownership.{bytes_ty, cells_own, deed_owns}
 use Rattle.raw_block.proofs.Places.{to_room}
 use Rattle.raw_block.proofs.Values.{pointer_val, owner_val, owner_told}

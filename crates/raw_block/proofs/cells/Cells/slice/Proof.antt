@@ -1,5 +1,5 @@
 -- `slice` makes one reference of what a `&` to the places holds of each byte. Assumes `Logic`.
-use Rattle.raw_block.proofs.Steps.{◌≡◌, ℕ, ◌+◌, ◌*◌, ◌^◌, ◌<◌, ◌≤◌, List, [], ◌∷◌, Some, map, length, take, dropped, refl, sym, ap, ◌∙◌, w64, arith, proved, after, full_share, never, id⊢, ftrue, fat, flft, named, Val, fact, tables, ‵, raw, ◌⊛◌, at_ret, ◌$◌, ◌∵◌, !, qed, done, move, keep, drop, use1, split, join, fsplit, fjoin, feq_i, flt_i, rewrite, suffices, frame, whole, sub, agg, enter, of_opd, bin, stop, fld, first, blocks, exec, returns, and_then, no_more, alloc_all, pass_all, free_all, look_at, get, get_in, sets, sets_last, take_at, give_at, env, u8, usize, uint_vals, uint_Tells, layout, owns, Ptr, in_a_block, shr_vals, shr_Tells, RefOf, plain, types_at, nothing, heard, Stays, walk_of, says, stay_dropped, Goes-dropped, ends_at}
+use Rattle.raw_block.proofs.Steps.{◌≡◌, ℕ, ◌+◌, ◌*◌, ◌^◌, ◌≤◌, List, [], ◌∷◌, Some, map, length, take, dropped, refl, sym, ap, ◌∙◌, w64, arith, proved, after, full_share, never, id⊢, ftrue, fat, flft, named, Val, fact, tables, ‵, raw, ◌⊛◌, at_ret, ◌$◌, ◌∵◌, !, qed, done, move, keep, drop, use1, split, join, fsplit, fjoin, feq_i, flt_i, rewrite, suffices, frame, whole, sub, agg, enter, of_opd, bin, stop, fld, first, blocks, exec, returns, and_then, no_more, alloc_all, pass_all, free_all, look_at, get, get_in, sets, sets_last, take_at, give_at, env, u8, usize, uint_vals, uint_Tells, layout, owns, Ptr, in_a_block, shr_vals, shr_Tells, RefOf, plain, types_at, nothing, heard, Stays, walk_of, says, stay_dropped, Goes-dropped, ends_at}
 use denote.Memory.{mem}
 use denote.Opens.{hide, unhide}
 use denote.Slice.{slice_val, elements_shared}

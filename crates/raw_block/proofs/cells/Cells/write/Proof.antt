@@ -1,5 +1,5 @@
 -- `write` takes one place out of the row, fills it and puts it back. Assumes `Logic`.
-use Rattle.raw_block.proofs.Steps.{◌≡◌, ℕ, ◌+◌, ◌<◌, ◌≤◌, List, [], ◌∷◌, Some, length, refl, sym, ◌∙◌, w8, w64, proved, after, full_share, never, id⊢, ftrue, fat, flft, named, Val, vunit, fact, tables, ‵, raw, ◌⊛◌, at_ret, ◌$◌, ◌∵◌, !, qed, done, move, keep, use1, use2, split, join, fsplit, fsplit3, fjoin, fjoin3, feq_i, rewrite, suffices, frame, whole, sub, enter, of_opd, unit_lit, bin, init, stop, fld, first, blocks, exec, returns, assigns_last, alloc_all, pass_all, free_all, look_at, get, get_in, through, sets, take_at, give_at, env, u8, usize, uint_vals, uint_Tells, layout, owns, Ptr, in_a_block, mut_vals, mut_Tells, plain, types_at, nothing, opens, closes, heard, Stays, walk_of, says, stay_dropped, Goes-dropped, stay_ref, Goes-ref, ends_at}
+use Rattle.raw_block.proofs.Steps.{◌≡◌, ◌+◌, ◌<◌, ◌≤◌, [], ◌∷◌, Some, length, refl, sym, ◌∙◌, w8, w64, proved, after, full_share, never, id⊢, ftrue, fat, flft, named, vunit, fact, tables, ‵, raw, ◌⊛◌, at_ret, ◌$◌, ◌∵◌, !, qed, done, move, keep, use1, use2, split, join, fsplit, fsplit3, fjoin, fjoin3, feq_i, rewrite, suffices, frame, whole, sub, enter, of_opd, unit_lit, bin, init, stop, fld, first, blocks, exec, returns, assigns_last, alloc_all, pass_all, free_all, look_at, get, get_in, through, sets, take_at, give_at, env, u8, usize, uint_vals, uint_Tells, layout, owns, Ptr, in_a_block, mut_vals, mut_Tells, plain, types_at, nothing, opens, closes, heard, Stays, walk_of, says, stay_dropped, Goes-dropped, stay_ref, Goes-ref, ends_at}
 use lib.ListN.{set}
 use base.Fml.{froom}
 use Rattle.raw_block.specs.Ownership.{byte_ty, places, cells_own}
