@@ -1,2 +1,3 @@
+pub mod BlockState
 pub mod Filling
 pub mod Ownership

@@ -28,17 +28,16 @@ pub struct RawBlock {
 }
 
 impl Model for RawBlock {
-    ghost use Rattle.std.specs.Prelude.{◌≡◌, ◌≤◌, length, take};
-    ghost use Rattle.ep_base.specs.RawBytes.{Block, block, block_code};
-    ghost use Rattle.raw_block.specs.Filling.{filled, IsFilledTo};
+    ghost use Rattle.ep_base.specs.RawBytes.{Block, block_code};
+    ghost use Rattle.raw_block.specs.BlockState.{bytes_of, IsBlock};
 
     ghost Value = { Block };
 
     ghost coded = { block_code };
 
-    ghost view = { λ b. block (filled (take b.len b.cells.slots)) b.cap };
+    ghost view = { bytes_of };
 
-    ghost invariant = { λ b. (b.cells.at ≡ b.pointer.ptr) × (length b.cells.slots ≡ b.cap) × (b.deed.at ≡ b.pointer.ptr) × (b.deed.len ≡ b.cap) × (b.deed.alloc ≡ b.alloc) × IsFilledTo b.len b.cells.slots × (b.len ≤ b.cap) × (1 ≤ b.cap) × (b.cap ≤ 65536) };
+    ghost invariant = { IsBlock };
 }
 
 impl RawBlock {
