@@ -42,6 +42,7 @@ pub mod PreProcessing
 pub mod ReaderEnd
 pub mod Polling
 pub mod Radio
+pub mod RawBytes
 pub mod Reading
 pub mod ReportLine
 pub mod ReplayRun

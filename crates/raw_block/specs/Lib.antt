@@ -1,0 +1,3 @@
+pub mod BlockState
+pub mod Filling
+pub mod Ownership
