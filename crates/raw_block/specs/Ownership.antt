@@ -22,18 +22,22 @@ abbrev pub places : ℕ → ℕ → List (Option ℕ) → Fml
 places b o [] = ftrue
 places b o (c ∷ cs) = fsep (place b o c) (places b (o + 1) cs)
 
+-- a place that is lent (this project's own)
 abbrev pub place_lent : ℕ → ℕ → Option ℕ → Lft → Fml
 place_lent b o (Some x) = shared_of u8 x b o
 place_lent b o None = nothing
 
+-- places that are lent, side by side (this project's own)
 abbrev pub places_lent : ℕ → ℕ → List (Option ℕ) → Lft → Fml
 places_lent b o [] = nothing
 places_lent b o (c ∷ cs) = beside (place_lent b o c) (places_lent b (o + 1) cs)
 
+-- what the cells at a pointer own (this project's own)
 abbrev pub cells_own : Ptr → List (Option ℕ) → Fml
 cells_own (block_ptr b o) cs = places b o cs
 cells_own null_ptr cs = ffalse
 
+-- what they lend (this project's own)
 abbrev pub cells_lent : Ptr → List (Option ℕ) → Lft → Fml
 cells_lent (block_ptr b o) cs = places_lent b o cs
 cells_lent null_ptr cs = said ffalse

@@ -1,4 +1,4 @@
--- What the values of a trace mean, in plain data.
+-- What the values of a trace mean, in plain data (this project's own).
 use Rattle.ep_base.specs.TraceLine.{Traced}
 use Rattle.rf_frame.specs.Meaning.{heard_of}
 use Rattle.trace_io.specs.declared.line.TraceLine.{TraceLine}
