@@ -13,6 +13,6 @@ pub use fault::{DocFault, DocKind, TableEnd};
 pub use list::{ElementKind, all_of, counted, items_of_kind, only};
 pub use order::in_byte_order;
 pub use path::Path;
-pub use reader::{ListOf, OnlyOne, Read};
+pub use reader::{ListOf, OnlyOne, Read, each};
 pub use section::Section;
 pub use value::{byte_text, integer_in, sized, table_in, truth};

@@ -34,8 +34,8 @@ pub trait Read {
         ensures { GivesIfRoom seen result (reads self.now path.now (view value.now)) };
 }
 
-// Each value in turn.
-fn each<R: Read>(
+/// Each value in turn, by the same reader. The path of the first one has the number 1.
+pub fn each<R: Read>(
     alloc: Global,
     path: &Path,
     values: &[Value],

@@ -3,13 +3,17 @@
 
 mod application;
 mod card;
+mod card_b;
+mod cards;
 mod combination;
 mod order;
 mod root;
+mod rounds;
 mod rule;
 mod script;
 mod step;
 mod transaction;
+mod values;
 
 use scenario::{DocEnd, DocKind, Scenario};
 use std::alloc::AllocGlobal;

@@ -4,15 +4,21 @@
 
 mod candidates;
 mod direct;
+mod holding;
 mod kernel;
+mod radio;
 mod ran;
 mod session;
 mod starting;
 mod steps;
 #[cfg(test)]
 mod tests;
+mod turn;
 mod whole;
 
+pub use block_reader::Kept;
+pub use holding::Session;
 pub use ran::Ran;
-pub use session::Session;
+pub use rf_frame::{Ask, Heard, RoundEnd};
 pub use session_event::{End, Event, EventList, Events, EventsFailed};
+pub use turn::Turn;

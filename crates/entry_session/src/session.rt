@@ -1,21 +1,34 @@
 //! Sessions.
-ghost use Rattle.std.specs.Prelude.{◌≡◌, [], IfOk};
+ghost use Rattle.std.specs.Prelude.{◌≡◌, ℕ, ◌<◌, ◌≤◌, [], ◌++◌, length, true, false, IfOk};
+ghost use Rattle.arrayvec.specs.ArrayVec.{array_vec_len};
 ghost use Rattle.ep_base.specs.Arena.{opened};
 ghost use Rattle.ep_base.specs.EntryPoint.{transaction};
+ghost use Rattle.ep_base.specs.Talk.{Talk};
 ghost use Rattle.ep_base.specs.TransportRun.{Runs};
+ghost use Rattle.law_lane.specs.Standing.{Standing, after_hearing, events_of, started};
 ghost use Rattle.law_run.specs.Heard.{RanBy};
+ghost use Rattle.poll_activate.specs.Meaning.{ends_of};
+ghost use Rattle.rf_frame.specs.Meaning.{heard_of};
+ghost use Rattle.session_phases.specs.Shown.{kept_of, kept_then};
+ghost use Rattle.session_phases.specs.Told.{told_by};
 ghost use Rattle.entry_session.specs.Meaning.{left_of, run_end_of};
 ghost use Rattle.entry_session.specs.Causes.{Caused};
+ghost use Rattle.entry_session.specs.Turns.{view_of, is_open, is_ask, StandsFor, Answers};
 
+use crate::holding::{Session, Task};
 use crate::ran::Ran;
+use crate::turn::Turn;
 use crate::whole::run_whole;
+use block_reader::Kept;
 use ep_base::NoMemory;
 use kernel_port::Kernels;
 use link::Transport;
+use poll_activate::Rounds;
 use pre_processing::Prepared;
-use session_event::Events;
+use rf_frame::{Heard, RoundEnd};
+use session_event::{EventList, Events};
+use session_phases::{Desk, Onward, begin, hear};
 use std::alloc::Global;
-use std::marker::{Model, PhantomData};
 use tlv_arena::Arena;
 
 /// The bytes of a session's arena, and how many objects it can hold. No directory needs more.
@@ -23,40 +36,25 @@ const ARENA_BYTES: usize = 1024;
 
 const ARENA_SLOTS: usize = 192;
 
-/// What runs transactions with kernels of one type. It means the contents of its arena, which is cleared at the
-/// beginning of each Start C.
-#[derive(Drop)]
-pub struct Session<K> {
-    arena: Arena,
-    kernels: PhantomData<K>,
-}
-
-impl<K> Model for Session<K> {
-    ghost use Rattle.ep_base.specs.Arena.{Contents};
-    ghost use Rattle.entry_session.specs.Meaning.{HasRoom};
-
-    ghost Value = { Contents };
-
-    ghost view = { λ s. s.arena };
-
-    ghost invariant = { λ s. HasRoom s.arena };
-}
-
 impl<K: Kernels + Drop> Session<K> {
-    /// A session with an empty arena of 1,024 bytes and 192 slots.
+    /// A session with an empty arena of 1,024 bytes and 192 slots, in which no transaction is open.
     ///
     /// Errors: `NoMemory`.
     pub fn open(alloc: Global) -> Result<Session<K>, NoMemory>
-        ensures { IfOk result (λ s. s ≡ opened 1024 192) }
+        ensures empty { IfOk result (λ s. s.desk.arena.contents ≡ opened 1024 192) }
+        ensures closed { IfOk result (λ s. is_open (view_of K.state K.is_open K.is_fresh s) ≡ false) }
     {
         let arena = Arena::open(alloc, ARENA_BYTES, ARENA_SLOTS)?;
-        Ok(Session {
+        let desk = Desk {
             arena,
-            kernels: PhantomData,
-        })
+            link: None,
+            rounds: Rounds::new(),
+        };
+        Ok(Session { desk, task: None })
     }
 
-    /// Runs a transaction from its first event to its end, with the starts A to D of Entry Point (EMV Book B).
+    /// Runs a transaction from its first event to its end, with the starts A to D of Entry Point (EMV Book B). A
+    /// transaction that was open is dropped.
     ///
     /// It runs as the transaction's talk may run over this transport and before this taker of events, and `became`
     /// says what that comes to: where it ended, the events taken are exactly those of the transaction for the results
@@ -81,7 +79,114 @@ impl<K: Kernels + Drop> Session<K> {
         ensures cause { Caused (T.faults transport.old) (T.faults transport.new) (E.faults events.old) (E.faults events.new)
             (result ≡ Ran.Device) (result ≡ Ran.EventsFailed) }
         ensures same_reference { E.anchor events.new ≡ E.anchor events.old }
+        ensures closed { is_open (view_of K.state K.is_open K.is_fresh self.new) ≡ false }
+        ensures no_rounds { (view_of K.state K.is_open K.is_fresh self.new).rounds ≡ [] }
+        ensures none_kept { kept_of (view_of K.state K.is_open K.is_fresh self.new).link ≡ [] }
     {
-        run_whole(&mut self.arena, prepared, kernels, transport, events)
+        self.task = None;
+        self.desk.link = None;
+        self.desk.rounds.clear();
+        run_whole(&mut self.desk.arena, prepared, kernels, transport, events)
+    }
+
+    /// Begins a transaction after Pre-Processing, with a reader of this FSDI, below 16, and says what is asked in its
+    /// first exchange, or how it ended without one. The events up to then are put into `events`, which is empty before.
+    pub fn start(
+        &mut self,
+        prepared: &Prepared,
+        kernels: K,
+        fsdi: u8,
+        events: &mut EventList,
+    ) -> Turn
+        requires closed { is_open (view_of K.state K.is_open K.is_fresh self.old) ≡ false }
+        requires code { fsdi < 16 }
+        requires empty { array_vec_len events.old ≡ 0 }
+        ensures stands { let talk = transaction K.steps prepared.now.txn_type prepared.now.amount prepared.now.list (K.state kernels) in
+            StandsFor K.steps (view_of K.state K.is_open K.is_fresh self.new) talk fsdi (started talk) }
+        ensures events { let talk = transaction K.steps prepared.now.txn_type prepared.now.amount prepared.now.list (K.state kernels) in
+            told_by events.new.items ≡ events_of talk (started talk) }
+        ensures answers { let talk = transaction K.steps prepared.now.txn_type prepared.now.amount prepared.now.list (K.state kernels) in
+            Answers result fsdi talk (started talk) }
+        ensures is_open { is_open (view_of K.state K.is_open K.is_fresh self.new) ≡ is_ask result }
+        ensures kept { kept_of (view_of K.state K.is_open K.is_fresh self.new).link ≡ [] }
+    {
+        match begin(prepared, &kernels, fsdi, &mut self.desk, events) {
+            Onward::Ask { ask, step } => {
+                self.task = Some(Task {
+                    prepared: prepared.copy(),
+                    kernels,
+                    fsdi,
+                    step,
+                });
+                Turn::Ask(ask)
+            }
+            Onward::Ended(end) => {
+                self.task = None;
+                Turn::Ended(end)
+            }
+        }
+    }
+
+    /// Takes what was heard in the exchange that was asked last, and says what is asked in the next one, or how the
+    /// transaction ended. The events that come with it, at most 24, are put into `events`, which is empty before.
+    pub fn advance(&mut self, heard: &Heard, events: &mut EventList) -> Turn
+        requires opened { is_open (view_of K.state K.is_open K.is_fresh self.old) ≡ true }
+        requires empty { array_vec_len events.old ≡ 0 }
+        ensures stands { (talk : Talk) (fsdi : ℕ) (st : Standing) → StandsFor K.steps (view_of K.state K.is_open K.is_fresh self.old) talk fsdi st
+            → StandsFor K.steps (view_of K.state K.is_open K.is_fresh self.new) talk fsdi (after_hearing fsdi talk (heard_of heard.now) st) }
+        ensures events { (talk : Talk) (fsdi : ℕ) (st : Standing) → StandsFor K.steps (view_of K.state K.is_open K.is_fresh self.old) talk fsdi st
+            → events_of talk st ++ told_by events.new.items ≡ events_of talk (after_hearing fsdi talk (heard_of heard.now) st) }
+        ensures answers { (talk : Talk) (fsdi : ℕ) (st : Standing) → StandsFor K.steps (view_of K.state K.is_open K.is_fresh self.old) talk fsdi st
+            → Answers result fsdi talk (after_hearing fsdi talk (heard_of heard.now) st) }
+        ensures is_open { is_open (view_of K.state K.is_open K.is_fresh self.new) ≡ is_ask result }
+        ensures kept { (talk : Talk) (fsdi : ℕ) (st : Standing) → StandsFor K.steps (view_of K.state K.is_open K.is_fresh self.old) talk fsdi st
+            → kept_of (view_of K.state K.is_open K.is_fresh self.new).link ≡ kept_then (heard_of heard.now) st (kept_of (view_of K.state K.is_open K.is_fresh self.old).link) }
+    {
+        let Task {
+            prepared,
+            mut kernels,
+            fsdi,
+            step,
+        } = self.task.take().unwrap();
+        match hear(
+            step,
+            &prepared,
+            &mut kernels,
+            fsdi,
+            &mut self.desk,
+            heard,
+            events,
+        ) {
+            Onward::Ask { ask, step } => {
+                self.task = Some(Task {
+                    prepared,
+                    kernels,
+                    fsdi,
+                    step,
+                });
+                Turn::Ask(ask)
+            }
+            Onward::Ended(end) => Turn::Ended(end),
+        }
+    }
+
+    /// How the rounds of the last Start B ended, in order. They stay until the next transaction begins.
+    pub fn rounds(&self) -> &[RoundEnd]
+        ensures ends { ends_of result.now ≡ (view_of K.state K.is_open K.is_fresh self.now).rounds }
+        ensures most { length result.now ≤ 64 }
+    {
+        self.desk.rounds.as_slice()
+    }
+
+    /// What the reader's end of the last link lends: its exchanges since its block number's last toggle. They stay until
+    /// the next transaction begins.
+    pub fn since_toggle(&self) -> &[Kept]
+        ensures exchanges { result.now ≡ kept_of (view_of K.state K.is_open K.is_fresh self.now).link }
+        ensures most { length result.now ≤ 32 }
+    {
+        match &self.desk.link {
+            Some(end) => end.since_toggle(),
+            None => &[],
+        }
     }
 }

@@ -12,9 +12,7 @@ use Rattle.ep_base.specs.ReportLine.{line_of}
 use Rattle.ep_base.specs.TransportRun.{all_taken}
 use Rattle.ep_base.specs.WrittenText.{event_lines}
 use Rattle.ep_base.proofs.Known.{appends_more}
-use Rattle.ep_base.specs.Direct.{Direct}
-use Rattle.ep_base.specs.TransportRun.{Left}
-use Rattle.law_run.specs.OverPerfect.{CutPerfect}
+use Rattle.law_radio.specs.Courses.{IsCutIn}
 use Rattle.ep_program.specs.Lines.{LineState, with_text, line_steps}
 
 -- Some text, and a first part of more.
@@ -90,22 +88,27 @@ lines_cut lane txn said before next after at =
     ap (event_lines lane txn) at ∙ lines_parts lane txn before (next ∷ after)
     ∙ sym (append_assoc (event_lines lane txn before) (line_of lane txn next) (event_lines lane txn after))
 
+-- Events that were all taken have written all of their lines.
+pub whole_lines : (said : List Said) (e f : LineState) → f ≡ all_taken line_steps.take e said → Appends e.written f.written (event_lines e.lane e.txn said)
+whole_lines said e f taken = appends_with e.written f.written (event_lines e.lane e.txn said) (ap (λ (s : LineState). s.written) (taken ∙ lines_taken e said))
+
+pub whole_told : (said : List Said) (e f : LineState) → f ≡ all_taken line_steps.take e said → is_some f.written ≡ is_some e.written
+whole_told said e f taken = told_with e.written f.written (event_lines e.lane e.txn said) (ap (λ (s : LineState). s.written) (taken ∙ lines_taken e said))
+
 -- A run that was cut has written a first part of its lines.
-pub cut_lines : (said : List Said) (commands : List (ℕ × List ℕ)) (d : Direct) (e : LineState) (left : Left Direct LineState)
-    → CutPerfect line_steps said commands d e left → AppendsPrefix e.written left.taken.written (event_lines e.lane e.txn said)
-cut_lines said commands d e left h =
+pub cut_lines : (said : List Said) (e f : LineState) → IsCutIn line_steps e said f → AppendsPrefix e.written f.written (event_lines e.lane e.txn said)
+cut_lines said e f h =
     let text = event_lines e.lane e.txn h.before in
-    let cut = subst (λ s. line_steps.cut s h.next left.taken) (lines_taken e h.before) h.cut in
-    part_front e.written left.taken.written (text ++ line_of e.lane e.txn h.next) (event_lines e.lane e.txn h.after) (event_lines e.lane e.txn said)
+    let cut = subst (λ s. line_steps.cut s h.next f) (lines_taken e h.before) h.cut in
+    part_front e.written f.written (text ++ line_of e.lane e.txn h.next) (event_lines e.lane e.txn h.after) (event_lines e.lane e.txn said)
     (lines_cut e.lane e.txn said h.before h.next h.after h.said_is)
-    (prefix_more e.written (with_text e.written text) left.taken.written text (line_of e.lane e.txn h.next)
+    (prefix_more e.written (with_text e.written text) f.written text (line_of e.lane e.txn h.next)
     (appends_with e.written (with_text e.written text) text refl) cut.2)
 
-pub cut_told : (said : List Said) (commands : List (ℕ × List ℕ)) (d : Direct) (e : LineState) (left : Left Direct LineState)
-    → CutPerfect line_steps said commands d e left → is_some left.taken.written ≡ is_some e.written
-cut_told said commands d e left h =
+pub cut_told : (said : List Said) (e f : LineState) → IsCutIn line_steps e said f → is_some f.written ≡ is_some e.written
+cut_told said e f h =
     let text = event_lines e.lane e.txn h.before in
-    let cut = subst (λ s. line_steps.cut s h.next left.taken) (lines_taken e h.before) h.cut in
+    let cut = subst (λ s. line_steps.cut s h.next f) (lines_taken e h.before) h.cut in
     cut.3 ∙ told_with e.written (with_text e.written text) text refl
 
 -- Where the front was written, an error in what follows leaves a first part of the text.
@@ -119,11 +122,3 @@ pub told_whole : (a b : Option (List ℕ)) (xs : List ℕ) (P : List ℕ → Typ
 told_whole None b xs P took at_end p = tt
 told_whole (Some ws) None xs P took at_end p = absurd took
 told_whole (Some ws) (Some ys) xs P took at_end p = subst P (sym (took ∙ ap (λ l. xs ++ l) at_end ∙ append-nil xs)) p
-
-no_rest : (n : ℕ) → n ≡ n - 1 → 0 < n → ⊥
-no_rest n e more = omega (arith, e, more)
-
--- A list that is its own rest is empty.
-pub empty_rest : {A : Type 0} (xs : List A) → xs ≡ drop 1 xs → xs ≡ []
-empty_rest [] e = refl
-empty_rest (x ∷ xs) e = absurd (no_rest (length (x ∷ xs)) (ap length e ∙ length-drop 1 (x ∷ xs)) (omega arith))

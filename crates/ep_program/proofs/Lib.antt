@@ -1,2 +1,3 @@
 pub mod Appending
-pub mod Within
+pub mod Each
+pub mod Ready

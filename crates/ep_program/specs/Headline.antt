@@ -1,80 +1,99 @@
--- What the program writes for a document, over the perfect channel (this project's own).
-use Rattle.std.specs.Prelude.{◌≡◌, codes, ℕ, ◌+◌, ◌≤◌, Bool, true, false, List, [], ◌∷◌, ◌++◌, length, map, replicate, String, string_bytes, None}
+-- What the program writes for a document, whose transactions run over the radio (this project's own).
+use Rattle.std.specs.Prelude.{◌≡◌, codes, ℕ, ◌+◌, ◌≤◌, All, Bool, true, false, List, [], ◌∷◌, ◌++◌, length, String, string_bytes, None}
 use Rattle.std.specs.declared.alloc.Global.{Global}
 use Rattle.ep_base.specs.Apdu.{same_bytes}
-use Rattle.ep_base.specs.Configuration.{Settings, count_of}
-use Rattle.ep_base.specs.Direct.{Direct}
-use Rattle.ep_base.specs.FrameSize.{frame_size}
-use Rattle.ep_base.specs.Hearing.{Activated}
-use Rattle.ep_base.specs.Kernel.{Scripted, steps_left}
+use Rattle.ep_base.specs.Configuration.{Settings}
+use Rattle.ep_base.specs.Field.{Field}
+use Rattle.ep_base.specs.Kernel.{Scripted}
 use Rattle.ep_base.specs.PreProcessing.{prepared}
-use Rattle.ep_base.specs.Said.{Said}
-use Rattle.ep_base.specs.WrittenText.{transaction_text}
-use Rattle.entry_session.specs.Perfect.{HasLogRoom, events_of, commands_of}
-use Rattle.law_run.specs.Bounds.{log_bound}
+use Rattle.ep_base.specs.Radio.{Radio}
+use Rattle.ep_base.specs.Talk.{Talk}
+use Rattle.ep_base.specs.TransportRun.{said_for}
+use Rattle.ep_base.specs.WrittenText.{event_lines, transaction_text}
+use Rattle.law_transaction.specs.Legal.{ScriptedSends}
+use Rattle.entry_session.specs.Perfect.{talk_of}
+use Rattle.entry_session.specs.Radio.{CourseOf, HasFieldRoom, IsNewRadio}
 use Rattle.pre_processing.specs.Preparation.{Preparation}
-use Rattle.scenario.specs.Cards.{Card}
-use Rattle.scenario.specs.Plan.{Transaction, Plan}
+use Rattle.scenario.specs.Plan.{Plan}
+use Rattle.scenario.specs.Scene.{Work, Scene, scene_of}
 
--- A card as the reader finds it.
-abbrev pub activated_of : Card → Activated
-activated_of c = record { kind = c.kind; id = c.id; fsc = frame_size c.fsci; fwi = c.fwi }
+-- What Start A gives a transaction (EMV Book B).
+abbrev pub preparation : Settings → Work → Preparation
+preparation settings w = record { txn_type = w.txn_type; amount = w.amount; list = prepared settings w.txn_type w.amount }
 
--- A transaction that is about to begin: its channel, whose log is empty, and its kernels.
-pub record Opened : Type 0 where
-  pub txn_type : ℕ
-  pub amount : ℕ
-  pub channel : Direct
-  pub scripts : Scripted
+-- The reader's radio before a transaction's first round (this project's own).
+abbrev pub radio_before : ℕ → Work → Radio Field
+radio_before fsdi w = record { medium = w.field; fsdi = fsdi; link = None }
 
--- How many records its log has room for: one more than the most commands of the transaction.
-abbrev pub room_of : Settings → Transaction → ℕ
-room_of settings t = log_bound (length t.scripts) (count_of t.txn_type settings.list) (steps_left t.scripts) + 1
+-- What a transaction says and asks, with its kernels (EMV Book B).
+abbrev pub talk_in : Settings → Work → Talk
+talk_in settings w = talk_of (preparation settings w) w.scripts
 
-abbrev pub opened : Settings → Transaction → Opened
-opened settings t = record {
-  txn_type = t.txn_type;
-  amount = t.amount;
-  channel = record { card = activated_of t.card; image = t.card.image; log = []; room = room_of settings t };
-  scripts = record { scripts = t.scripts; running = None };
-}
+-- A course of a transaction over the radio: what is heard in it up to its end, and the cards then. It keeps to the perfect run for the ends of its
+-- rounds, or ends at a link's third bad hearing (this project's own).
+abbrev pub WorkCourse : Settings → ℕ → Work → Type 0
+WorkCourse settings fsdi w = CourseOf (preparation settings w) w.scripts (radio_before fsdi w)
 
--- What Pre-Processing gives it.
-abbrev pub preparation : Settings → Opened → Preparation
-preparation settings o = record { txn_type = o.txn_type; amount = o.amount; list = prepared settings o.txn_type o.amount }
+-- The lines of the events of a course (this project's own).
+abbrev pub course_lines : (p : Preparation) (k : Scripted) (s : Radio Field) (lane txn : ℕ) → CourseOf p k s → List ℕ
+course_lines p k s lane txn c = event_lines lane txn (said_for (talk_of p k) c.heard c.ending)
 
--- The perfect run, with the one card in each Start B: its events, and its commands with the card's number.
-abbrev pub run_of : Settings → Opened → List Said × List (ℕ × List ℕ)
-run_of settings o = (events_of (preparation settings o) o.scripts o.channel, commands_of (preparation settings o) o.scripts o.channel)
+-- The lines of a transaction in a course: those of its events, and then those of what the cards executed (this project's own).
+abbrev pub purchase_text : (settings : Settings) (fsdi lane txn : ℕ) (w : Work) → WorkCourse settings fsdi w → List ℕ
+purchase_text settings fsdi lane txn w c = transaction_text lane txn (said_for (talk_in settings w) c.heard c.ending) c.after.medium.log
 
--- The lines of a transaction.
-abbrev pub purchase_text : Settings → (lane txn : ℕ) → Opened → List ℕ
-purchase_text settings lane txn o = transaction_text lane txn (run_of settings o).0 (run_of settings o).1
+-- A course of each transaction of a lane (this project's own).
+abbrev pub LaneCourses : Settings → ℕ → List Work → Type 0
+LaneCourses settings fsdi [] = Unit {0}
+LaneCourses settings fsdi (w ∷ ws) = WorkCourse settings fsdi w × LaneCourses settings fsdi ws
 
--- The lines of a lane's transactions, of which the first has this number.
-abbrev pub purchases_text : Settings → (lane txn : ℕ) → List Opened → List ℕ
-purchases_text settings lane txn [] = []
-purchases_text settings lane txn (o ∷ rest) = purchase_text settings lane txn o ++ purchases_text settings lane (txn + 1) rest
+-- The lines of a lane's transactions, of which the first has this number (this project's own).
+abbrev pub purchases_text : (settings : Settings) (fsdi lane txn : ℕ) (ws : List Work) → LaneCourses settings fsdi ws → List ℕ
+purchases_text settings fsdi lane txn [] cs = []
+purchases_text settings fsdi lane txn (w ∷ ws) cs =
+    purchase_text settings fsdi lane txn w cs.0 ++ purchases_text settings fsdi lane (txn + 1) ws cs.1
 
--- The lines of the lanes, of which the first has this number.
-abbrev pub lanes_text : Settings → (lane : ℕ) → List (List Opened) → List ℕ
-lanes_text settings lane [] = []
-lanes_text settings lane (os ∷ rest) = purchases_text settings lane 1 os ++ lanes_text settings (lane + 1) rest
+-- A course of each transaction of each lane (this project's own).
+abbrev pub AllCourses : Settings → ℕ → List (List Work) → Type 0
+AllCourses settings fsdi [] = Unit {0}
+AllCourses settings fsdi (ws ∷ rest) = LaneCourses settings fsdi ws × AllCourses settings fsdi rest
 
-abbrev pub all_opened : Settings → List (List Transaction) → List (List Opened)
-all_opened settings lanes = map (λ ts. map (opened settings) ts) lanes
+-- The lines of the lanes, of which the first has this number (this project's own).
+abbrev pub lanes_text : (settings : Settings) (fsdi lane : ℕ) (lanes : List (List Work)) → AllCourses settings fsdi lanes → List ℕ
+lanes_text settings fsdi lane [] cs = []
+lanes_text settings fsdi lane (ws ∷ rest) cs = purchases_text settings fsdi lane 1 ws cs.0 ++ lanes_text settings fsdi (lane + 1) rest cs.1
 
--- The whole text of a document.
-unfoldable pub text_of : Plan → List ℕ
-text_of plan = lanes_text plan.config 1 (all_opened plan.config plan.lanes)
+-- A course of each transaction of a scene (this project's own).
+abbrev pub SceneCourses : Scene → Type 0
+SceneCourses s = AllCourses s.config s.fsdi s.lanes
 
--- The words are the one form that is built: run.
+-- The whole text of a scene in these courses (this project's own).
+abbrev pub scene_text : (s : Scene) → SceneCourses s → List ℕ
+scene_text s cs = lanes_text s.config s.fsdi 1 s.lanes cs
+
+-- A course of each transaction of a document (this project's own).
+abbrev pub PlanCourses : Plan → Type 0
+PlanCourses p = SceneCourses (scene_of p)
+
+-- The whole text of a document in these courses (this project's own).
+abbrev pub text_of : (p : Plan) → PlanCourses p → List ℕ
+text_of p cs = scene_text (scene_of p) cs
+
+-- The words are the one form that is built: run (this project's own).
 abbrev pub is_run : List (String Global) → Bool
 is_run [] = false
 is_run (w ∷ []) = same_bytes (string_bytes w) (codes "run")
 is_run (w ∷ v ∷ ws) = false
 
--- A transaction whose log is empty and has room for its commands.
-pub record IsFresh (settings : Settings) (o : Opened) : Type 0 where
-  pub none : o.channel.log ≡ []
-  pub room : HasLogRoom (preparation settings o) o.scripts o.channel
+-- A transaction that may begin: its radio is new, its kernels send commands, and its log has room for more than these (this project's own).
+pub record IsFresh (settings : Settings) (fsdi : ℕ) (w : Work) : Type 0 where
+  pub new : IsNewRadio (radio_before fsdi w)
+  pub sends : ScriptedSends w.scripts
+  pub room : HasFieldRoom (preparation settings w) w.scripts (radio_before fsdi w)
+
+-- A scene whose transactions may begin: at most 8 lanes of at most 64 transactions, and a frame size code of at most 8 (this project's own).
+pub record IsReady (s : Scene) : Type 0 where
+  pub code : s.fsdi ≤ 8
+  pub few : length s.lanes ≤ 8
+  pub short : All (λ lane. length lane ≤ 64) s.lanes
+  pub fresh : All (All (IsFresh s.config s.fsdi)) s.lanes

@@ -5,6 +5,7 @@ use Rattle.report_text.specs.FaultWords.{document_fault}
 use Rattle.ep_program.specs.declared.status.Status.{Status}
 use Rattle.ep_program.specs.declared.status.Status.TheVariants.{Done, ReadFault, WriteFault, NoMemory, Usage, TooLong, NotToml, BadDocument}
 
+-- The exit status of each (this project's own).
 abbrev pub number_of : Status → ℕ
 number_of Done = 0
 number_of ReadFault = 1
@@ -15,7 +16,7 @@ number_of TooLong = 5
 number_of NotToml = 6
 number_of (BadDocument f) = 7
 
--- The text of a status; Done has none.
+-- The text of a status; Done has none (this project's own).
 abbrev pub fault_text_of : Status → List ℕ
 fault_text_of Done = []
 fault_text_of ReadFault = read_fault

@@ -2,7 +2,6 @@
 #![tactic(auto)]
 
 mod lines;
-mod purchase;
 mod report;
 mod serve;
 mod status;

@@ -1,48 +1,48 @@
 //! The report of transactions, line by line, as they run.
-ghost use Rattle.std.specs.Prelude.{◌≡◌, ◌≤◌, ◌+◌, [], length, map, All, OnOk, OnErr, IsErr, is_some};
+ghost use Rattle.std.specs.Prelude.{◌≡◌, ◌≤◌, length, map, All, OnOk, OnErr, IsErr, is_some};
 ghost use Rattle.std.specs.Io.KnownBytes.{Appends};
 ghost use Rattle.ep_base.specs.Causes.{HasCause};
 ghost use Rattle.ep_base.specs.Io.{AppendsPrefix};
-ghost use Rattle.ep_base.specs.WrittenText.{event_lines, log_lines};
-ghost use Rattle.entry_session.specs.Perfect.{HasLogRoom, events_of, commands_of};
+ghost use Rattle.ep_base.specs.WrittenText.{log_lines};
+ghost use Rattle.entry_session.specs.Radio.{CourseOf, HasFieldRoom, IsNewRadio, radio_of};
 ghost use Rattle.kernel_port.specs.Scripts.{scripted_of};
-ghost use Rattle.link.specs.Direct.{direct_of};
-ghost use Rattle.ep_program.specs.Headline.{IsFresh, purchase_text, purchases_text, lanes_text};
-ghost use Rattle.ep_program.specs.Purchase.{opened_of};
+ghost use Rattle.law_transaction.specs.Legal.{ScriptedSends};
+ghost use Rattle.ep_program.specs.Headline.{IsFresh, course_lines, purchase_text, purchases_text, lanes_text};
+ghost use Rattle.ep_program.specs.Lines.{AppendsEach, AppendsPartOfEach};
 
 use crate::lines::Lines;
-use crate::purchase::Purchase;
 use acquirer_config::Config;
 use card_image::Record;
 use entry_session::{Ran, Session};
 use ep_base::{Line, Sink, SinkFailed, push_all};
-use kernel_port::Scripts;
-use link::Direct;
+use link::RfTransport;
 use pre_processing::{Prepared, prepare};
 use report_text::log_line;
-use std::collections::VecDeque;
+use scenario::{Field, Job, Scripts};
 
-/// The report of all lanes, one after another.
+/// The report of all lanes, one after another: its text for each course of their transactions, of which there is one
+/// text. The reader's frame size code is at most 8. Nothing here takes memory.
 ///
 /// Errors: the sink has failed; a first part of the report was written.
 pub fn report_lanes<K: Sink>(
     session: &mut Session<Scripts>,
     config: &Config,
-    lanes: VecDeque<VecDeque<Purchase>>,
+    fsdi: u8,
+    lanes: Vec<Vec<Job>>,
     output: &mut K,
 ) -> Result<(), SinkFailed>
-    requires fresh { All (λ lane. All (IsFresh config.now) (map opened_of lane.items)) lanes.items }
+    requires code { fsdi ≤ 8 }
+    requires fresh { All (λ lane. All (IsFresh config.now fsdi) lane.items) lanes.items }
     requires short { All (λ lane. length lane.items ≤ 64) lanes.items }
     requires few { length lanes.items ≤ 8 }
-    ensures ok { OnOk result (Appends (K.written output.old) (K.written output.new) (lanes_text config.now 1 (map (λ lane. map opened_of lane.items) lanes.items))) }
-    ensures err { OnErr result (AppendsPrefix (K.written output.old) (K.written output.new) (lanes_text config.now 1 (map (λ lane. map opened_of lane.items) lanes.items))) }
+    ensures ok { OnOk result (AppendsEach (lanes_text config.now fsdi 1 (map (λ lane. lane.items) lanes.items)) (K.written output.old) (K.written output.new)) }
+    ensures err { OnErr result (AppendsPartOfEach (lanes_text config.now fsdi 1 (map (λ lane. lane.items) lanes.items)) (K.written output.old) (K.written output.new)) }
     ensures told { is_some (K.written output.new) ≡ is_some (K.written output.old) }
     ensures cause { HasCause (K.faults output.old) (K.faults output.new) (IsErr result) }
 {
-    let mut lanes = lanes;
     let mut number = 1u8;
-    'each: while let Some(lane) = lanes.pop_front() {
-        match report_lane(session, config, number, lane, output) {
+    for lane in lanes {
+        match report_lane(session, config, fsdi, number, lane, output) {
             Ok(()) => {}
             Err(_) => return Err(SinkFailed),
         }
@@ -55,21 +55,22 @@ pub fn report_lanes<K: Sink>(
 fn report_lane<K: Sink>(
     session: &mut Session<Scripts>,
     config: &Config,
+    fsdi: u8,
     lane: u8,
-    purchases: VecDeque<Purchase>,
+    jobs: Vec<Job>,
     output: &mut K,
 ) -> Result<(), SinkFailed>
-    requires fresh { All (IsFresh config.now) (map opened_of purchases.items) }
-    requires few { length purchases.items ≤ 64 }
-    ensures ok { OnOk result (Appends (K.written output.old) (K.written output.new) (purchases_text config.now lane 1 (map opened_of purchases.items))) }
-    ensures err { OnErr result (AppendsPrefix (K.written output.old) (K.written output.new) (purchases_text config.now lane 1 (map opened_of purchases.items))) }
+    requires code { fsdi ≤ 8 }
+    requires fresh { All (IsFresh config.now fsdi) jobs.items }
+    requires few { length jobs.items ≤ 64 }
+    ensures ok { OnOk result (AppendsEach (purchases_text config.now fsdi lane 1 jobs.items) (K.written output.old) (K.written output.new)) }
+    ensures err { OnErr result (AppendsPartOfEach (purchases_text config.now fsdi lane 1 jobs.items) (K.written output.old) (K.written output.new)) }
     ensures told { is_some (K.written output.new) ≡ is_some (K.written output.old) }
     ensures cause { HasCause (K.faults output.old) (K.faults output.new) (IsErr result) }
 {
-    let mut purchases = purchases;
     let mut txn = 1u8;
-    'each: while let Some(purchase) = purchases.pop_front() {
-        match report(session, config, lane, txn, purchase, output) {
+    for job in jobs {
+        match report(session, config, fsdi, lane, txn, job, output) {
             Ok(()) => {}
             Err(_) => return Err(SinkFailed),
         }
@@ -78,31 +79,33 @@ fn report_lane<K: Sink>(
     Ok(())
 }
 
-// The report of a transaction: the lines of its events as they come, and then those of its card's log.
+// The report of a transaction: the lines of its events as they come, and then those of what its cards executed.
 fn report<K: Sink>(
     session: &mut Session<Scripts>,
     config: &Config,
+    fsdi: u8,
     lane: u8,
     txn: u8,
-    purchase: Purchase,
+    job: Job,
     output: &mut K,
 ) -> Result<(), SinkFailed>
-    requires { IsFresh config.now (opened_of purchase) }
-    ensures ok { OnOk result (Appends (K.written output.old) (K.written output.new) (purchase_text config.now lane txn (opened_of purchase))) }
-    ensures err { OnErr result (AppendsPrefix (K.written output.old) (K.written output.new) (purchase_text config.now lane txn (opened_of purchase))) }
+    requires code { fsdi ≤ 8 }
+    requires fresh { IsFresh config.now fsdi job }
+    ensures ok { OnOk result (AppendsEach (purchase_text config.now fsdi lane txn job) (K.written output.old) (K.written output.new)) }
+    ensures err { OnErr result (AppendsPartOfEach (purchase_text config.now fsdi lane txn job) (K.written output.old) (K.written output.new)) }
     ensures told { is_some (K.written output.new) ≡ is_some (K.written output.old) }
     ensures cause { HasCause (K.faults output.old) (K.faults output.new) (IsErr result) }
 {
-    let Purchase {
+    let Job {
         txn_type,
         amount,
-        channel,
+        field,
         scripts,
-    } = purchase;
-    let mut channel = channel;
+    } = job;
     let prepared = prepare(config, txn_type, amount);
-    match write_events(session, &prepared, scripts, &mut channel, lane, txn, output) {
-        Ok(()) => write_log(lane, txn, channel.log().records(), output),
+    let mut radio = RfTransport::open(field, fsdi);
+    match write_events(session, &prepared, scripts, &mut radio, lane, txn, output) {
+        Ok(()) => write_log(lane, txn, radio.medium().log().records(), output),
         Err(_) => Err(SinkFailed),
     }
 }
@@ -112,18 +115,17 @@ fn write_events<K: Sink>(
     session: &mut Session<Scripts>,
     prepared: &Prepared,
     scripts: Scripts,
-    channel: &mut Direct,
+    radio: &mut RfTransport<Field>,
     lane: u8,
     txn: u8,
     output: &mut K,
 ) -> Result<(), SinkFailed>
-    requires empty { (direct_of channel.old).log ≡ [] }
-    requires room { HasLogRoom prepared.now (scripted_of scripts) (direct_of channel.old) }
-    ensures ok { OnOk result (Appends (K.written output.old) (K.written output.new)
-        (event_lines lane txn (events_of prepared.now (scripted_of scripts) (direct_of channel.old)))) }
-    ensures log { OnOk result ((direct_of channel.new).log ≡ commands_of prepared.now (scripted_of scripts) (direct_of channel.old)) }
-    ensures err { OnErr result (AppendsPrefix (K.written output.old) (K.written output.new)
-        (event_lines lane txn (events_of prepared.now (scripted_of scripts) (direct_of channel.old)))) }
+    requires new { IsNewRadio (radio_of radio.old) }
+    requires sends { ScriptedSends (scripted_of scripts) }
+    requires room { HasFieldRoom prepared.now (scripted_of scripts) (radio_of radio.old) }
+    ensures ok { OnOk result (AppendsEach (course_lines prepared.now (scripted_of scripts) (radio_of radio.old) lane txn) (K.written output.old) (K.written output.new)) }
+    ensures log { OnOk result ((c : CourseOf prepared.now (scripted_of scripts) (radio_of radio.old)) → (radio_of radio.new).medium.log ≡ c.after.medium.log) }
+    ensures err { OnErr result (AppendsPartOfEach (course_lines prepared.now (scripted_of scripts) (radio_of radio.old) lane txn) (K.written output.old) (K.written output.new)) }
     ensures told { is_some (K.written output.new) ≡ is_some (K.written output.old) }
     ensures cause { HasCause (K.faults output.old) (K.faults output.new) (IsErr result) }
 {
@@ -132,7 +134,7 @@ fn write_events<K: Sink>(
         lane,
         txn,
     };
-    match session.run_direct(prepared, scripts, channel, &mut lines) {
+    match session.run_radio(prepared, scripts, radio, &mut lines) {
         Ran::Ended(_) => Ok(()),
         Ran::EventsFailed => Err(SinkFailed),
         Ran::Device => unreachable!(),

@@ -1,20 +1,16 @@
 //! The top call.
-ghost use Rattle.std.specs.Prelude.{◌≡◌, IfOk, IfErr, IsErrOf, OnOk, map};
+ghost use Rattle.std.specs.Prelude.{◌≡◌, IfOk, IfErr, IsErrOf, OnOk};
 ghost use Rattle.std.specs.Io.KnownBytes.{IsAtEnd};
 ghost use Rattle.ep_base.specs.Causes.{HasCause};
-ghost use Rattle.ep_program.specs.Headline.{is_run, opened};
-ghost use Rattle.ep_program.specs.Purchase.{opened_of};
-ghost use Rattle.ep_program.specs.Serve.{Gives, Refuses, Serves, IsWithin, Reports};
+ghost use Rattle.ep_program.specs.Headline.{IsReady, is_run};
+ghost use Rattle.ep_program.specs.Serve.{Opens, Refuses, Serves, Reports};
 
-use crate::purchase::{Purchase, open_lane};
 use crate::report::report_lanes;
 use crate::status::Status;
-use acquirer_config::Config;
 use entry_session::Session;
 use ep_base::{NoMemory, ReadEnd, Sink, Source, read_all};
-use scenario::{DocEnd, Job, Scenario};
+use scenario::{DocEnd, Scenario};
 use std::alloc::Global;
-use std::collections::VecDeque;
 
 /// The most bytes of an input.
 const LIMIT: usize = 1_048_576;
@@ -31,7 +27,7 @@ fn is_run(words: &[String]) -> bool
 
 // All that comes in, and what it says.
 fn read<S: Source>(alloc: Global, input: &mut S) -> Result<Scenario, Status>
-    ensures ok { IfOk result (Gives (S.left input.old)) }
+    ensures ok { IfOk result (Opens (S.left input.old)) }
     ensures err { IfErr result (Refuses (S.left input.old)) }
     ensures whole { OnOk result (IsAtEnd (S.left input.new)) }
     ensures cause { HasCause (S.faults input.old) (S.faults input.new) (IsErrOf result Status.ReadFault) }
@@ -49,26 +45,22 @@ fn read<S: Source>(alloc: Global, input: &mut S) -> Result<Scenario, Status>
     }
 }
 
-// Takes the memory of all transactions.
-fn open_lanes(
-    alloc: Global,
-    config: &Config,
-    lanes: Vec<Vec<Job>>,
-) -> Result<VecDeque<VecDeque<Purchase>>, NoMemory>
-    ensures { IfOk result (λ q. map (λ lane. map opened_of lane.items) q.items ≡ map (λ lane. map (opened config.now) lane.items) lanes.items) }
-{
-    let mut opened = VecDeque::new(alloc);
-    for jobs in lanes {
-        let lane = open_lane(alloc, config, jobs)?;
-        if opened.push_back(lane).is_err() {
-            return Err(NoMemory);
-        }
-    }
-    Ok(opened)
-}
-
-/// Does what the words say: `run` reads a document from the input, runs its transactions over the perfect channel and
-/// writes their report. All memory is taken before the first line is written.
+/// Does what the words say: `run` reads a document from the input, runs its transactions over the radio, one after
+/// another, each with the field of its own cards, and writes their report. All memory is taken before the first line is
+/// written.
+///
+/// This is the promise of the whole program. Whatever frames are lost or damaged by a burst, whichever cards are present
+/// in a round, and whenever they leave, each transaction has a course, which says what was heard in it, and `Done` comes
+/// with exactly the lines of these courses: there is one text, and no other can be written.
+///
+/// - In a course that comes to its end the events are those of the Entry Point rules over a perfect channel, for the ends
+///   that its poll rounds had, and the cards executed exactly the commands of that run, each once and in their order.
+/// - A link fails only where an open link made its third bad exchange of a command since the reader's last toggle, or
+///   since the link was opened. Then the report has the events before that command and the failed link's end, and the
+///   cards executed the commands before it, each once, and that command at most once.
+/// - A card is never found to break the rules of the link, and no device fails.
+///
+/// A sink that fails leaves a first part of that text, with `WriteFault`.
 ///
 /// Each status has its reason: `Usage` the words, `BadDocument` the document's first fault, `NotToml` and `TooLong` the
 /// input; `ReadFault` and `WriteFault` come only where a count of faults rose, and `NoMemory` may come for every document.
@@ -94,20 +86,20 @@ pub fn serve<S: Source, K: Sink>(
 
 // Runs the transactions of a document and writes their report.
 fn run<K: Sink>(alloc: Global, scenario: Scenario, output: &mut K) -> Status
-    requires { IsWithin scenario }
+    requires ready { IsReady scenario }
     ensures reports { Reports scenario (K.written output.old) (K.written output.new) result }
     ensures cause { HasCause (K.faults output.old) (K.faults output.new) (result ≡ Status.WriteFault) }
 {
-    let Scenario { config, lanes } = scenario;
-    let lanes = match open_lanes(alloc, &config, lanes) {
-        Ok(lanes) => lanes,
-        Err(NoMemory) => return Status::NoMemory,
-    };
+    let Scenario {
+        config,
+        fsdi,
+        lanes,
+    } = scenario;
     let mut session = match Session::open(alloc) {
         Ok(session) => session,
         Err(NoMemory) => return Status::NoMemory,
     };
-    match report_lanes(&mut session, &config, lanes, output) {
+    match report_lanes(&mut session, &config, fsdi, lanes, output) {
         Ok(()) => Status::Done,
         Err(_) => Status::WriteFault,
     }

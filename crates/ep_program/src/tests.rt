@@ -1,9 +1,11 @@
 //! The program at work: what no clause says is the text of a whole purchase, that memory can be had, and what faults of
 //! source and sink leave behind.
 
+mod cards;
 mod edits;
 mod kernels;
 mod limits;
+mod radio;
 mod refusals;
 mod selection;
 

@@ -291,7 +291,7 @@ module _ (frames : Frames) (image : Image) (before : List (List ℕ)) (command :
       then_rest fates (all_exchanges sized is legal fates) _ _ (exchange sized is legal m place s fine fits le f.down f.up)
 
   -- a loss at most, where a bad hearing is counted
-  abbrev Keeps : ℕ → Turn → Type 0
+  abbrev pub Keeps : ℕ → Turn → Type 0
   Keeps n (Asks r) = count is_bad r.since ≤ n
   Keeps n (Gives response r) = Unit {0}
   Keeps n (Spends r) = 3 ≤ n
@@ -330,7 +330,7 @@ module _ (frames : Frames) (image : Image) (before : List (List ℕ)) (command :
   keeps_intact r (Wtx p m) = elim (nat_le (suc (count is_wtx r.since)) 16) as (λ (b : Bool). Keeps (count is_bad r.since) (if b then Asks (kept (Intact (Wtx p m)) r) else Breaks r)) [ true ↦ omega arith | false ↦ tt ]
 
   -- the bad hearings after an exchange
-  keeps : IsImage image → image.is_command command ≡ true → (m : Bool) (place : Place) (s : List Heard) → Fine place → Fits m place s → (f : Fate) (n : ℕ) → count is_bad s + losses (f ∷ []) ≤ n → Keeps n (hears_answer f.up frames (reader_at m place s) (goes_down f.down frames image (card_at m place) (asked (reader_at m place s))))
+  pub keeps : IsImage image → image.is_command command ≡ true → (m : Bool) (place : Place) (s : List Heard) → Fine place → Fits m place s → (f : Fate) (n : ℕ) → count is_bad s + losses (f ∷ []) ≤ n → Keeps n (hears_answer f.up frames (reader_at m place s) (goes_down f.down frames image (card_at m place) (asked (reader_at m place s))))
   keeps is legal m place s fine fits f n le = go f.down f.up refl refl
     where
       r : Reader

@@ -52,6 +52,7 @@ pub record Arrived (m : ℕ) (card : Activated) (set : LinkSetting) (s t : Field
   pub is : is_open set.kind (length before) t ≡ true
   pub ready : 0 < m → OfLink set (shown (length before) t) × AtRest opened (shown (length before) t).party.card
   pub stay : faces t.cards ≡ reset_faces s.cards
+  pub there : t.air.gone ≡ false
 
 pub arrives : (m fsdi rounds : ℕ) (s t : Field) (ends : List RoundEnd) (card : Activated) → Lawful s → PlaysRounds (told field) fsdi rounds s ends (Came card) t → length s.log + m < s.room
     → Arrived m card (setting_of fsdi card) s t
@@ -76,10 +77,12 @@ arrives zero fsdi rounds s t ends card l x room =
       is = rw (there, passages) refl;
       ready = λ (some : 0 < 0). absurd (omega (arith, some));
       stay = (keeps_cards_law fsdi u t (Some (Found card)) quiet.3.1 quiet.3.3).3 ∙ same.cards;
+      there = y.7;
     }
 arrives (suc k) fsdi rounds s t ends card l x room =
     let ready = polls_ready_law fsdi rounds s t ends card (setting_of fsdi card) l x (record { kind = refl; reader = refl; size = refl }) (omega (arith, room)) in
     let y = ready.0 in
+    let quiet = polls_quietly_law fsdi rounds s t ends (Came card) l x in
     record {
       before = y.0;
       one = y.1;
@@ -91,4 +94,5 @@ arrives (suc k) fsdi rounds s t ends card l x room =
       is = y.6.is;
       ready = λ some. (y.6.wire, y.6.rest);
       stay = ready.1;
+      there = (links_one_law fsdi quiet.3.0 t card quiet.3.1 quiet.3.3).7;
     }

@@ -36,6 +36,8 @@ use Rattle.law_round.proofs.Polling.{polls_quietly_law}
 use Rattle.law_round.proofs.Acting.{others_stay_law}
 use Rattle.law_round.proofs.Carrying.{once_in_field_law, leaves_others_law, stays_ready_law}
 use Rattle.law_round.proofs.Closing.{closes_quietly_law}
+use Rattle.law_round.proofs.Lossless.{Passing, IsClear, rounds_passing, passing_block, command_clear, unspent_in_field}
+use Rattle.law_radio.specs.Lossless.{NoLoss}
 use Rattle.law_radio.specs.OverRadio.{numbers, AreDistinct, AreNumbered, IsNew, IsCarried, AtThird, Keeps, OverRadio}
 use Rattle.law_radio.proofs.Numbers.{number_stays}
 use Rattle.law_radio.proofs.Cards.{AllImages, names_polled, numbers_polled, numbers_moved, numbered_again, found_number, have_all, images_polled, images_presented, images_moved, images_stay, image_at, none_selected}
@@ -53,7 +55,13 @@ never_fails set b s t sends =
     let clash = ap (λ (x : Option Hearing × Field). x.0) e in
     cc
 
-module _ (number_of : Activated → ℕ) (later : List RoundEnd) where
+-- a link failed so, and it can't have where Q holds
+pub record Fails (Q : Type 0) (u : Field) (c : List ℕ) : Type 0 where
+  pub third : AtThird u c
+  pub never : Q → ⊥
+
+-- Q stands for what makes every frame pass
+module _ (number_of : Activated → ℕ) (later : List RoundEnd) (Q : Type 0) where
   abbrev one : Rules Image
   one = image_rules number_of
 
@@ -64,6 +72,7 @@ module _ (number_of : Activated → ℕ) (later : List RoundEnd) where
     distinct : AreDistinct (numbers f.cards)
     all : AllImages images (faces f.cards)
     room : length f.log + m < f.room
+    pass : Q → Passing f
 
   -- the channel presents this card
   abbrev Presented : Channel Image → Image → Type 0
@@ -85,6 +94,7 @@ module _ (number_of : Activated → ℕ) (later : List RoundEnd) where
     is : is_open l.set.kind place f ≡ true
     ready : 0 < m → OfLink l.set (shown place f) × AtRest l.reader (shown place f).party.card
     here : found ≡ true → Presented ch (party_at place f.cards).image
+    there : Q → f.air.gone ≡ false
     comes : Comes found ch (party_at place f.cards).image more
 
   abbrev ByLink : ℕ → Bool → List RoundEnd → Field → Channel Image → Option OpenLink → Type 0
@@ -93,7 +103,7 @@ module _ (number_of : Activated → ℕ) (later : List RoundEnd) where
 
   abbrev Goal : Talk → HearEnd → Channel Image → Radio Field → Radio Field → List Result → Type 0
   Goal talk ending ch s u heard =
-      (log : List (ℕ × List ℕ)) × (u.medium.log ≡ s.medium.log ++ log) × Kept (AtThird u.medium) talk heard log (perfect one talk (ends_of heard ++ later) ch) ending
+      (log : List (ℕ × List ℕ)) × (u.medium.log ≡ s.medium.log ++ log) × Kept (Fails Q u.medium) talk heard log (perfect one talk (ends_of heard ++ later) ch) ending
 
   -- each hearing of the talk is as its perfect run
   abbrev Plays : Talk → Type 0
@@ -103,7 +113,7 @@ module _ (number_of : Activated → ℕ) (later : List RoundEnd) where
 
   over_plays : (e : Ending) → Plays (Over e)
   over_plays e found m more s u ch heard ending knows link legal most is =
-      let same : Kept (AtThird u.medium) (Over e) [] [] nothing Whole = record { results = refl; executed = refl; over = refl } in
+      let same : Kept (Fails Q u.medium) (Over e) [] [] nothing Whole = record { results = refl; executed = refl; over = refl } in
       let start : Goal (Over e) Whole ch s s [] = ([], sym (append-nil s.medium.log), same) in
       subst (λ h. Goal (Over e) ending ch s u h) (sym is.0)
       (subst (λ x. Goal (Over e) x ch s u []) (sym is.1) (subst (λ v. Goal (Over e) Whole ch s v []) (sym is.2) start))
@@ -111,24 +121,25 @@ module _ (number_of : Activated → ℕ) (later : List RoundEnd) where
   say_plays : (x : Told) (next : Talk) → Plays next → Plays (Say x next)
   say_plays x next again found m more s u ch heard ending knows link legal most hears =
       let r = again found m more s u ch heard ending knows link legal most hears in
-      (r.0, r.1, say_kept (AtThird u.medium) x next heard r.0 (perfect one next (ends_of heard ++ later) ch) ending r.2)
+      (r.0, r.1, say_kept (Fails Q u.medium) x next heard r.0 (perfect one next (ends_of heard ++ later) ch) ending r.2)
 
   -- ---- presentations
 
   knows_presented : (m : ℕ) (f : Field) (ch : Channel Image) (x : RoundEnd) → Knows m f ch.images → Knows m f (presents one ch x).images
-  knows_presented m f ch x k = record { lawful = k.lawful; numbered = k.numbered; distinct = k.distinct; all = images_presented number_of ch x (faces f.cards) k.all; room = k.room }
+  knows_presented m f ch x k = record { lawful = k.lawful; numbered = k.numbered; distinct = k.distinct; all = images_presented number_of ch x (faces f.cards) k.all; room = k.room; pass = k.pass }
 
-  knows_polled : (m : ℕ) (s t : Field) (images : ℕ → Image) → Lawful t → SameCards s t → Knows m s images → Knows m t images
-  knows_polled m s t images l same k = record {
+  knows_polled : (m : ℕ) (s t : Field) (images : ℕ → Image) → Lawful t → SameCards s t → (Passing s → Passing t) → Knows m s images → Knows m t images
+  knows_polled m s t images l same pass k = record {
     lawful = l;
     numbered = numbered_again number_of s.cards t.cards (names_polled s.cards t.cards same.cards) (numbers_polled s.cards t.cards same.cards) k.numbered;
     distinct = subst (λ ns. AreDistinct ns) (sym (numbers_polled s.cards t.cards same.cards)) k.distinct;
     all = images_polled images s.cards t.cards same.cards k.all;
     room = subst (λ r. length t.log + m < r) (sym same.room) (subst (λ (log : List (ℕ × List ℕ)). length log + m < s.room) (sym same.log) k.room);
+    pass = λ q. pass (k.pass q);
   }
 
   taken_card : (m : ℕ) (found : Bool) (x : RoundEnd) (more : List RoundEnd) (f : Field) (ch : Channel Image) (l : OpenLink) → HasCard m found (x ∷ more) f ch l → HasCard m (is_found x) more f (presents one ch x) l
-  taken_card m found (Found card) [] f ch l h = record { place = h.place; is = h.is; ready = h.ready; here = λ e. (ap (λ (k : ℕ). Some k) h.comes.1, h.comes.2); comes = tt }
+  taken_card m found (Found card) [] f ch l h = record { place = h.place; is = h.is; ready = h.ready; here = λ e. (ap (λ (k : ℕ). Some k) h.comes.1, h.comes.2); there = h.there; comes = tt }
   taken_card m found (Found card) (x ∷ more) f ch l h = absurd h.comes
   taken_card m found Empty more f ch l h = absurd h.comes
   taken_card m found Collision more f ch l h = absurd h.comes
@@ -143,7 +154,7 @@ module _ (number_of : Activated → ℕ) (later : List RoundEnd) where
       → Goal (next x) ending (presents one ch x) v u rest → Goal (Poll next) ending ch s u heard
   polled_goal next x ending s v u ch heard rest log is r =
       let g : Goal (Poll next) ending ch s u (Round x ∷ rest) =
-      (r.0, r.1 ∙ ap (λ (l : List (ℕ × List ℕ)). l ++ r.0) log, poll_kept (AtThird u.medium) x next rest r.0 (perfect one (next x) (ends_of rest ++ later) (presents one ch x)) ending r.2) in
+      (r.0, r.1 ∙ ap (λ (l : List (ℕ × List ℕ)). l ++ r.0) log, poll_kept (Fails Q u.medium) x next rest r.0 (perfect one (next x) (ends_of rest ++ later) (presents one ch x)) ending r.2) in
       subst (λ h. Goal (Poll next) ending ch s u h) (sym is) g
 
   -- a card that came, and how the channel has it
@@ -152,6 +163,7 @@ module _ (number_of : Activated → ℕ) (later : List RoundEnd) where
     is : is_open card.kind place f ≡ true
     ready : 0 < m → OfLink (setting_of fsdi card) (shown place f) × AtRest opened (shown place f).party.card
     number : number_of card ≡ (party_at place f.cards).image.number
+    there : f.air.gone ≡ false
     image : deselected (ch.images (party_at place f.cards).image.number) ≡ (party_at place f.cards).image
 
   card_there : (m fsdi : ℕ) (s t : Field) (ends : List RoundEnd) (card : Activated) (ch : Channel Image) → Knows m s ch.images → Knows m t ch.images → PlaysRounds (told field) fsdi 64 s ends (Came card) t
@@ -166,6 +178,7 @@ module _ (number_of : Activated → ℕ) (later : List RoundEnd) where
         is = a.is;
         ready = a.ready;
         number = numbered ∙ sym (ap (λ p. p.image.number) a.party);
+        there = a.there;
         image = image_at ch.images card.kind t.air.gone n t.cards there kt.all ∙ none_selected card.kind t.air.gone n s.cards t.cards there a.stay;
       }
 
@@ -177,29 +190,29 @@ module _ (number_of : Activated → ℕ) (later : List RoundEnd) where
       → HearsPresent (radio (told field)) (λ x more. Hears (radio (told field)) (next x) more) p v heard ending u → Goal (Poll next) ending ch s u heard
   present_plays next again found m s u v ch heard ending (Here false card) k legal most p h =
       let quiet = polls_quietly_law s.fsdi 64 s.medium v.medium p.0.ends (Came card) k.lawful p.0.plays in
-      let kv = knows_polled m s.medium v.medium ch.images quiet.1 quiet.2 k in
+      let kv = knows_polled m s.medium v.medium ch.images quiet.1 quiet.2 (λ all. rounds_passing s.fsdi 64 s.medium v.medium p.0.ends (Came card) all p.0.plays) k in
       let there = card_there m s.fsdi s.medium v.medium p.0.ends card ch k kv p.0.plays in
       let c = presents one ch (Found card) in
-      let has : HasCard m true [] v.medium c (link_to s.fsdi card) = record { place = there.place; is = there.is; ready = there.ready; here = λ e. (ap (λ (n : ℕ). Some n) there.number, there.image); comes = tt } in
+      let has : HasCard m true [] v.medium c (link_to s.fsdi card) = record { place = there.place; is = there.is; ready = there.ready; here = λ e. (ap (λ (n : ℕ). Some n) there.number, there.image); there = λ q. there.there; comes = tt } in
       polled_goal next (Found card) ending s v u ch heard h.0 quiet.2.log h.1
       (again (Found card) true m [] v u c h.0 ending (knows_presented m v.medium ch (Found card) kv) (subst (λ o. ByLink m true [] v.medium c o) (sym p.1.links) has) (legal (Found card)) (most (Found card)) h.2)
   present_plays next again found m s u v ch heard ending (Here true card) k legal most p h =
       let quiet = polls_quietly_law s.fsdi 64 s.medium v.medium p.0.ends (Came card) k.lawful p.0.plays in
-      let kv = knows_polled m s.medium v.medium ch.images quiet.1 quiet.2 k in
+      let kv = knows_polled m s.medium v.medium ch.images quiet.1 quiet.2 (λ all. rounds_passing s.fsdi 64 s.medium v.medium p.0.ends (Came card) all p.0.plays) k in
       let there = card_there m s.fsdi s.medium v.medium p.0.ends card ch k kv p.0.plays in
       let c = presents one ch Collision in
-      let has : HasCard m false (Found card ∷ []) v.medium c (link_to s.fsdi card) = record { place = there.place; is = there.is; ready = there.ready; here = λ (e : false ≡ true). absurd (let g : ⊥ = cc in g); comes = (refl, there.number, there.image) } in
+      let has : HasCard m false (Found card ∷ []) v.medium c (link_to s.fsdi card) = record { place = there.place; is = there.is; ready = there.ready; here = λ (e : false ≡ true). absurd (let g : ⊥ = cc in g); there = λ q. there.there; comes = (refl, there.number, there.image) } in
       polled_goal next Collision ending s v u ch heard h.0 quiet.2.log h.1
       (again Collision false m (Found card ∷ []) v u c h.0 ending (knows_presented m v.medium ch Collision kv) (subst (λ o. ByLink m false (Found card ∷ []) v.medium c o) (sym p.1.links) has) (legal Collision) (most Collision) h.2)
   present_plays next again found m s u v ch heard ending (Nobody false) k legal most p h =
       let quiet = polls_quietly_law s.fsdi 64 s.medium v.medium p.0.ends polling.NoCard k.lawful p.0.plays in
-      let kv = knows_polled m s.medium v.medium ch.images quiet.1 quiet.2 k in
+      let kv = knows_polled m s.medium v.medium ch.images quiet.1 quiet.2 (λ all. rounds_passing s.fsdi 64 s.medium v.medium p.0.ends polling.NoCard all p.0.plays) k in
       let c = presents one ch Empty in
       polled_goal next Empty ending s v u ch heard h.0 quiet.2.log h.1
       (again Empty false m (replicate 63 Empty) v u c h.0 ending (knows_presented m v.medium ch Empty kv) (subst (λ o. ByLink m false (replicate 63 Empty) v.medium c o) (sym p.1.links) tt) (legal Empty) (most Empty) h.2)
   present_plays next again found m s u v ch heard ending (Nobody true) k legal most p h =
       let quiet = polls_quietly_law s.fsdi 64 s.medium v.medium p.0.ends polling.NoCard k.lawful p.0.plays in
-      let kv = knows_polled m s.medium v.medium ch.images quiet.1 quiet.2 k in
+      let kv = knows_polled m s.medium v.medium ch.images quiet.1 quiet.2 (λ all. rounds_passing s.fsdi 64 s.medium v.medium p.0.ends polling.NoCard all p.0.plays) k in
       let c = presents one ch Collision in
       polled_goal next Collision ending s v u ch heard h.0 quiet.2.log h.1
       (again Collision false m (replicate 63 Empty) v u c h.0 ending (knows_presented m v.medium ch Collision kv) (subst (λ o. ByLink m false (replicate 63 Empty) v.medium c o) (sym p.1.links) tt) (legal Collision) (most Collision) h.2)
@@ -239,10 +252,11 @@ module _ (number_of : Activated → ℕ) (later : List RoundEnd) where
         distinct = subst (λ ns. AreDistinct ns) (sym same) k.distinct;
         all = images_stay ch.images l.set.kind l.set.kind s.medium.air.gone v.medium.air.gone n s.medium.cards v.medium.cards ls lv stay.0 quiet.1 k.all;
         room = subst (λ r. length v.medium.log + m < r) room (subst (λ (log : List (ℕ × List ℕ)). length log + m < s.medium.room) (sym quiet.0) k.room);
+        pass = λ q. passing_block l.set Deselect s.medium v.medium (Some is.0) (k.pass q) is.1;
       } in
       let r = again false m more v u c h.0 ending kv (subst (λ o. ByLink m false more v.medium c o) (sym is.2.links) tt) legal most h.2 in
       let g : Goal (Close next) ending ch s u (Closed ∷ h.0) =
-      (r.0, r.1 ∙ ap (λ (x : List (ℕ × List ℕ)). x ++ r.0) quiet.0, close_kept (AtThird u.medium) next h.0 r.0 (perfect one next (ends_of h.0 ++ later) c) ending r.2) in
+      (r.0, r.1 ∙ ap (λ (x : List (ℕ × List ℕ)). x ++ r.0) quiet.0, close_kept (Fails Q u.medium) next h.0 r.0 (perfect one next (ends_of h.0 ++ later) c) ending r.2) in
       subst (λ x. Goal (Close next) ending ch s u x) (sym h.1) g
 
   close_plays : (next : Talk) → Plays next → Plays (Close next)
@@ -309,6 +323,7 @@ module _ (number_of : Activated → ℕ) (later : List RoundEnd) where
         let r : Reader = is.0 in
         let hs : List Hearing = is.1.hearings in
         let ready = h.ready x.some in
+        let clear : Q → IsClear v.medium = λ q. command_clear l.set n s.medium v.medium (begin l.set.frames.card c l.reader) hs (Gives a r) h.is (h.there q, k.pass q) is.1.follows in
         let o = once (Gives a r) hs is.1.follows in
         let said : a ≡ response = o.0.0 in
         let log : v.medium.log ≡ s.medium.log ++ (card_number, c) ∷ [] = o.0.1.log in
@@ -331,6 +346,7 @@ module _ (number_of : Activated → ℕ) (later : List RoundEnd) where
           distinct = subst (λ ns. AreDistinct ns) (sym same) k.distinct;
           all = images_moved l.set.kind l.set.kind s.medium.air.gone v.medium.air.gone card_number (card_answer card_image c).1 ch.images n s.medium.cards v.medium.cards ls lv left.1 refl number image k.distinct k.all;
           room = room;
+          pass = λ q. (clear q).1;
         } in
         let has : HasCard (m - 1) found more v.medium then_channel (record { set = l.set; reader = r }) = record {
           place = n;
@@ -340,25 +356,26 @@ module _ (number_of : Activated → ℕ) (later : List RoundEnd) where
             ap (λ (j : ℕ). Some j) (sym now_number),
             ap (λ j. stored card_number (card_answer card_image c).1 ch.images j) now_number ∙ (stored_at card_number (card_answer card_image c).1 ch.images ∙ sym image),
           );
+          there = λ q. (clear q).0;
           comes = comes_on found ch then_channel card_image (party_at n v.medium.cards).image more x.sent h.comes;
         } in
         let fits : length response ≤ 258 = ((images_keep number_of).responses 0 card_image c ready.0.image).1 in
         let short : length a ≤ 258 = subst (λ (y : List ℕ). length y ≤ 258) (sym said) fits in
         let y = again a found (m - 1) more v u then_channel rest ending kv (subst (λ p. ByLink (m - 1) found more v.medium then_channel p) (sym is.2.links) has) (x.legal a) (x.most a short) hears in
         let ends = ends_of rest ++ later in
-        let kept : Kept (AtThird u.medium) (Command c next) (Response a ∷ rest) ((card_number, c) ∷ y.0) (executes card_number c (gave (Response a) (perfect one (next a) ends then_channel))) ending =
-        answer_kept (AtThird u.medium) card_number c a next rest y.0 (perfect one (next a) ends then_channel) ending y.2 in
-        let kept_so : Kept (AtThird u.medium) (Command c next) (Response a ∷ rest) ((card_number, c) ∷ y.0) (run_of c next ends ch card_number card_image) ending =
-        subst (λ z. Kept (AtThird u.medium) (Command c next) (Response a ∷ rest) ((card_number, c) ∷ y.0) (executes card_number c (gave (Response z) (perfect one (next z) ends then_channel))) ending) said kept in (
+        let kept : Kept (Fails Q u.medium) (Command c next) (Response a ∷ rest) ((card_number, c) ∷ y.0) (executes card_number c (gave (Response a) (perfect one (next a) ends then_channel))) ending =
+        answer_kept (Fails Q u.medium) card_number c a next rest y.0 (perfect one (next a) ends then_channel) ending y.2 in
+        let kept_so : Kept (Fails Q u.medium) (Command c next) (Response a ∷ rest) ((card_number, c) ∷ y.0) (run_of c next ends ch card_number card_image) ending =
+        subst (λ z. Kept (Fails Q u.medium) (Command c next) (Response a ∷ rest) ((card_number, c) ∷ y.0) (executes card_number c (gave (Response z) (perfect one (next z) ends then_channel))) ending) said kept in (
           (card_number, c) ∷ y.0,
           y.1 ∙ (ap (λ (z : List (ℕ × List ℕ)). z ++ y.0) log ∙ append_assoc s.medium.log ((card_number, c) ∷ []) y.0),
-          subst (λ p. Kept (AtThird u.medium) (Command c next) (Response a ∷ rest) ((card_number, c) ∷ y.0) p ending) (sym (run_is c next ends ch card_image (h.here x.sent))) kept_so,
+          subst (λ p. Kept (Fails Q u.medium) (Command c next) (Response a ∷ rest) ((card_number, c) ∷ y.0) p ending) (sym (run_is c next ends ch card_image (h.here x.sent))) kept_so,
         )
 
     abbrev then_run : Perfect
     then_run = perfect one (next response) later then_channel
 
-    ends_here : (log : List (ℕ × List ℕ)) → (log ≡ []) ⊎ (log ≡ (card_number, c) ∷ []) → AtThird v.medium c → Kept (AtThird v.medium) (Command c next) [] log (run_of c next later ch card_number card_image) AtLink
+    ends_here : (log : List (ℕ × List ℕ)) → (log ≡ []) ⊎ (log ≡ (card_number, c) ∷ []) → Fails Q v.medium c → Kept (Fails Q v.medium) (Command c next) [] log (run_of c next later ch card_number card_image) AtLink
     ends_here log executed third = (
       record {
         number = card_number;
@@ -378,14 +395,17 @@ module _ (number_of : Activated → ℕ) (later : List RoundEnd) where
       third,
     )
 
-    spent_here : (log : List (ℕ × List ℕ)) → (log ≡ []) ⊎ (log ≡ (card_number, c) ∷ []) → AtThird v.medium c → v.medium.log ≡ s.medium.log ++ log → Goal (Command c next) AtLink ch s v []
+    spent_here : (log : List (ℕ × List ℕ)) → (log ≡ []) ⊎ (log ≡ (card_number, c) ∷ []) → Fails Q v.medium c → v.medium.log ≡ s.medium.log ++ log → Goal (Command c next) AtLink ch s v []
     spent_here log executed third is =
-        (log, is, subst (λ p. Kept (AtThird v.medium) (Command c next) [] log p AtLink) (sym (run_is c next later ch card_image (h.here x.sent))) (ends_here log executed third))
+        (log, is, subst (λ p. Kept (Fails Q v.medium) (Command c next) [] log p AtLink) (sym (run_is c next later ch card_image (h.here x.sent))) (ends_here log executed third))
 
     spent_goal : LinkTransacts (told field) l s c Spent v → Goal (Command c next) AtLink ch s v []
     spent_goal is =
         let o = (once (Spends is.0) is.1.hearings is.1.follows).0 in
-        let third : AtThird v.medium c = record { link = l; before = s.medium; reader = is.0; comes = is.1; third = o.0 } in
+        let third : Fails Q v.medium c = record {
+          third = record { link = l; before = s.medium; reader = is.0; comes = is.1; third = o.0 };
+          never = λ q. unspent_in_field l.set h.place s.medium v.medium l.reader c is.1.hearings (Spends is.0) h.is (h.ready x.some).0 (h.ready x.some).1 x.form (h.there q, k.pass q) is.1.follows;
+        } in
         elim o.1 [
           | inl e ↦ spent_here [] (inl refl) third (e ∙ sym (append-nil s.medium.log))
           | inr e ↦ spent_here ((card_number, c) ∷ []) (inr refl) third e
@@ -416,19 +436,10 @@ module _ (number_of : Activated → ℕ) (later : List RoundEnd) where
   plays (Command c next) = command_plays c next (λ a. plays (next a))
   plays (Close next) = close_plays next (plays next)
 
-  keeps : (talk : Talk) (heard : List Result) (u : Field) (p : Perfect) (ending : HearEnd) → Kept (AtThird u) talk heard u.log p ending → Keeps talk heard u p ending
-  keeps talk heard u p Whole r = record {
-    events = append-nil (so_far talk heard).events ∙ ap (λ (y : List Result). (so_far talk y).events) (sym r.results);
-    executed = r.executed;
-    over = r.over;
-  }
-  keeps talk heard u p AtLink r = r
-  keeps talk heard u p AtBreach r = r
-  keeps talk heard u p AtDevice r = r
-
-  over_radio : (images : ℕ → Image) (talk : Talk) (s u : Radio Field) (heard : List Result) (ending : HearEnd) → IsNew number_of images s → IsCarried talk s.medium.room → Hears (radio (told field)) talk [] s heard ending u
-      → Keeps talk heard u.medium (perfect one talk (ends_of heard ++ later) (channel images)) ending
-  over_radio images talk s u heard ending x t hears =
+  -- what was heard to an end
+  kept_over : (images : ℕ → Image) (talk : Talk) (s u : Radio Field) (heard : List Result) (ending : HearEnd) → (Q → Passing s.medium) → IsNew number_of images s → IsCarried talk s.medium.room
+      → Hears (radio (told field)) talk [] s heard ending u → Kept (Fails Q u.medium) talk heard u.medium.log (perfect one talk (ends_of heard ++ later) (channel images)) ending
+  kept_over images talk s u heard ending pass x t hears =
       let ch : Channel Image = channel images in
       let size : length s.medium.log ≡ 0 = ap (λ (log : List (ℕ × List ℕ)). length log) x.empty in
       let less : t.commands < s.medium.room = t.free in
@@ -438,11 +449,36 @@ module _ (number_of : Activated → ℕ) (later : List RoundEnd) where
         distinct = x.distinct;
         all = have_all images s.medium.cards x.have;
         room = omega (arith, size, less);
+        pass = pass;
       } in
       let r = plays talk false t.commands [] s u ch heard ending knows (subst (λ o. ByLink t.commands false [] s.medium ch o) (sym x.unlinked) tt) t.legal t.most hears in
       let log : u.medium.log ≡ r.0 = r.1 ∙ ap (λ (l : List (ℕ × List ℕ)). l ++ r.0) x.empty in
       let p = perfect one talk (ends_of heard ++ later) ch in
-      keeps talk heard u.medium p ending (subst (λ l. Kept (AtThird u.medium) talk heard l p ending) (sym log) r.2)
+      subst (λ l. Kept (Fails Q u.medium) talk heard l p ending) (sym log) r.2
+
+pub keeps : (Q : Type 0) (talk : Talk) (heard : List Result) (u : Field) (p : Perfect) (ending : HearEnd) → Kept (Fails Q u) talk heard u.log p ending → Keeps talk heard u p ending
+keeps Q talk heard u p Whole r = record {
+  events = append-nil (so_far talk heard).events ∙ ap (λ (y : List Result). (so_far talk y).events) (sym r.results);
+  executed = r.executed;
+  over = r.over;
+}
+keeps Q talk heard u p AtLink r = (r.0, r.1.third)
+keeps Q talk heard u p AtBreach r = r
+keeps Q talk heard u p AtDevice r = r
+
+-- where Q holds it is whole
+pub whole_by : (Q : Type 0) (talk : Talk) (heard : List Result) (u : Field) (log : List (ℕ × List ℕ)) (p : Perfect) (ending : HearEnd) → Q → Kept (Fails Q u) talk heard log p ending → ending ≡ Whole
+whole_by Q talk heard u log p Whole q r = refl
+whole_by Q talk heard u log p AtLink q r = absurd (r.1.never q)
+whole_by Q talk heard u log p AtBreach q r = absurd r
+whole_by Q talk heard u log p AtDevice q r = absurd r
 
 pub over_the_radio_law : OverRadio
-over_the_radio_law number_of images talk s u heard ending later new carried hears = over_radio number_of later images talk s u heard ending new carried hears
+over_the_radio_law number_of images talk s u heard ending later new carried hears =
+    keeps (Passing s.medium) talk heard u.medium (perfect (one number_of later (Passing s.medium)) talk (ends_of heard ++ later) (channel images)) ending
+    (kept_over number_of later (Passing s.medium) images talk s u heard ending (λ all. all) new carried hears)
+
+pub no_loss_law : NoLoss
+no_loss_law number_of images talk s new carried all c =
+    whole_by (Passing s.medium) talk c.heard c.after.medium c.after.medium.log (perfect (one number_of [] (Passing s.medium)) talk (ends_of c.heard ++ []) (channel images)) c.ending all
+    (kept_over number_of [] (Passing s.medium) images talk s c.after c.heard c.ending (λ passing. passing) new carried c.hears)

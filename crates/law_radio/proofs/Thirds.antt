@@ -11,11 +11,11 @@ use Rattle.law_link.proofs.Bounding.{bounded_toggles}
 use Rattle.law_radio.specs.Thirds.{SpentAtThird}
 
 module _ {S : Type 0} (steps : MediumSteps S) (set : LinkSetting) where
-  read : List Hearing → List Heard
+  unfoldable pub read : List Hearing → List Heard
   read [] = []
   read (h ∷ hs) = heard_block set.kind set.frames.reader h ∷ read hs
 
-  abbrev After : List Hearing → Turn → Turn
+  abbrev pub After : List Hearing → Turn → Turn
   After hs turn = after_all set.frames.reader (read hs) turn
 
   goes : (next : Turn) (hs : List Hearing) (s t : S) (turn : Turn) → ((q : Reader) → Follows steps set hs q s turn t → turn ≡ After hs (Asks q))
@@ -26,7 +26,7 @@ module _ {S : Type 0} (steps : MediumSteps S) (set : LinkSetting) where
   goes (Spends q) hs s t turn more x = subst (λ ys. turn ≡ After ys (Spends q)) (sym x.0) x.1
   goes (Breaks q) hs s t turn more x = subst (λ ys. turn ≡ After ys (Breaks q)) (sym x.0) x.1
 
-  turn_is : (hs : List Hearing) (r : Reader) (s t : S) (turn : Turn) → Follows steps set hs r s turn t → turn ≡ After hs (Asks r)
+  pub turn_is : (hs : List Hearing) (r : Reader) (s t : S) (turn : Turn) → Follows steps set hs r s turn t → turn ≡ After hs (Asks r)
   unfolding read
   turn_is [] r s t turn x = x.0
   turn_is (h ∷ hs) r s t turn x = goes (turn_on set r h) hs x.0 t turn (λ q y. turn_is hs q x.0 t turn y) x.2

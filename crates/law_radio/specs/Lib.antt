@@ -1,3 +1,5 @@
+pub mod Courses
+pub mod Lossless
 pub mod Opening
 pub mod OverRadio
 pub mod Purchases

@@ -5,6 +5,9 @@
 #![tactic(auto)]
 
 ghost use Rattle.ep_base.specs.Kernel.{KernelSteps};
+ghost use Rattle.ep_base.specs.Medium.{ToldMedium};
+ghost use Rattle.law_radio.specs.Courses.{AlwaysHeard, OneCourse, RadioHasOneAnswer, RunsAsHeard, TransactionCloses};
+ghost use Rattle.law_radio.specs.Lossless.{NoLoss};
 ghost use Rattle.law_radio.specs.Opening.{NewFieldIsNew};
 ghost use Rattle.law_radio.specs.OverRadio.{OverRadio};
 ghost use Rattle.law_radio.specs.Purchases.{RunsOverRadio, TransactionIsCarried};
@@ -49,4 +52,39 @@ pub fn runs_over_the_radio<K: Taker>()
 /// the link was opened.
 pub fn spent_at_third<M: Medium>()
     ensures { SpentAtThird M.steps }
+{}
+
+/// There is always a course: such a talk over a new radio that carries it is heard to its end, whatever becomes of the
+/// frames and whichever cards are present, where it closes no presentation but that of a card that was found.
+pub fn always_heard()
+    ensures { AlwaysHeard }
+{}
+
+/// Where every frame passes, no link fails: each course of such a talk is whole, whichever cards are present.
+///
+/// No fate is left but frames that pass; after the fates' end all frames pass. The field and the talk are as for
+/// `over_the_radio`.
+pub fn no_loss()
+    ensures { NoLoss }
+{}
+
+/// A transaction of Entry Point closes a card that was found alone, whatever its kernels are. S has their states.
+pub fn transaction_closes<S>()
+    ensures { (k : KernelSteps S) → TransactionCloses k }
+{}
+
+/// The radio over a medium that tells its answers, with states S, has one answer to each call, and one state after it.
+pub fn radio_has_one_answer<S>()
+    ensures { (m : ToldMedium S) → RadioHasOneAnswer m }
+{}
+
+/// Every run of a talk over the radio is as its course: no device fails; a run that ended took all its events and left
+/// the radio as the course does; and one that its taker of events cut short took a first part of its events.
+pub fn runs_as_heard<K: Taker>()
+    ensures { RunsAsHeard K.steps }
+{}
+
+/// A talk over the radio has one course at most.
+pub fn one_course()
+    ensures { OneCourse }
 {}

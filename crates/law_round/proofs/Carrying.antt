@@ -32,7 +32,7 @@ module _ (set : LinkSetting) (n : ℕ) (P : Field → Type 0) (step : (s t : Fie
   goes_along (Spends q) hs s turn t p more x = subst P (sym x.2) p
   goes_along (Breaks q) hs s turn t p more x = subst P (sym x.2) p
 
-  along : (hs : List Hearing) (r : Reader) (s : Field) (turn : Turn) (t : Field) → is_open set.kind n s ≡ true → P s → Follows (told field) set hs r s turn t → P t
+  pub along : (hs : List Hearing) (r : Reader) (s : Field) (turn : Turn) (t : Field) → is_open set.kind n s ≡ true → P s → Follows (told field) set hs r s turn t → P t
   along [] r s turn t good p x = subst P (sym x.1) p
   along (h ∷ hs) r s turn t good p x =
       let u = x.0 in

@@ -10,6 +10,7 @@ pub mod Lawfulness
 pub mod Learning
 pub mod Linking
 pub mod Lone
+pub mod Lossless
 pub mod Muteness
 pub mod Playing
 pub mod Polling

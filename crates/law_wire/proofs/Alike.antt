@@ -1,13 +1,15 @@
 -- A medium that carries blocks as a wire does carries commands as a wire does.
-use Rattle.std.proofs.Common.{◌≡◌, Bool, true, List, [], ◌∷◌, Some, sym, ap, subst}
+use Rattle.std.proofs.Common.{◌≡◌, ℕ, Bool, true, false, List, [], ◌∷◌, Some, sym, ap, subst}
+use Rattle.ep_base.specs.Air.{AllPass}
+use Rattle.ep_base.specs.Apdu.{is_command}
 use Rattle.ep_base.specs.Hearing.{Hearing}
 use Rattle.ep_base.specs.LinkFrames.{LinkSetting}
 use Rattle.ep_base.specs.Medium.{MediumSteps, told}
 use Rattle.ep_base.specs.ReaderEnd.{Reader, Turn, Asks, Gives, Spends, Breaks, asked, begin}
 use Rattle.ep_base.specs.Wire.{Wire, wire}
-use Rattle.ep_base.specs.Carry.{ActsAs, GoesOn, Follows, turn_on}
+use Rattle.ep_base.specs.Carry.{ActsAs, AtRest, OfLink, GoesOn, Follows, turn_on}
 use Rattle.law_wire.specs.Alike.{CarriedAlike}
-use Rattle.law_wire.proofs.Carrying.{carried_once_lem}
+use Rattle.law_wire.proofs.Carrying.{IsUnspent, carried_once_lem, unspent_lem}
 
 module _ {S : Type 0} (steps : MediumSteps S) (set : LinkSetting) (good : S → Bool) (shown : S → Wire) (acts : ActsAs steps set good shown) where
   -- from a good state the hearings are those of a wire
@@ -35,3 +37,11 @@ unfolding AsWire
 carried_alike_lem steps set good shown s r command hs turn t acts is of rest legal follows =
     let alike = all_alike steps set good shown acts hs (begin set.frames.card command r) s turn t is follows in
     (carried_once_lem set (shown s) r command hs turn (shown t) of rest legal alike.0, alike.1)
+
+-- where every frame passes, the link isn't spent
+pub unspent_alike : {S : Type 0} (steps : MediumSteps S) (set : LinkSetting) (good : S → Bool) (shown : S → Wire) (s : S) (r : Reader) (command : List ℕ) (hs : List Hearing) (turn : Turn) (t : S)
+    → ActsAs steps set good shown → good s ≡ true → OfLink set (shown s) → AtRest r (shown s).party.card → is_command command ≡ true → (shown s).air.gone ≡ false → AllPass (shown s).air.fates
+    → Follows steps set hs (begin set.frames.card command r) s turn t → IsUnspent turn
+unfolding AsWire
+unspent_alike steps set good shown s r command hs turn t acts is of rest legal here all follows =
+    unspent_lem set (shown s) r command hs turn (shown t) of rest legal here all (all_alike steps set good shown acts hs (begin set.frames.card command r) s turn t is follows).0

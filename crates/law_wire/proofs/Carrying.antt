@@ -1,11 +1,11 @@
 -- The induction over the hearings of a command.
-use Rattle.std.proofs.Common.{◌≡◌, ◌⊎◌, ℕ, ◌-◌, ◌≤◌, Bool, true, false, List, [], ◌∷◌, ◌++◌, Option, Some, refl, sym, ap, ◌∙◌, subst, inl, inr, ⊎_elim, arith, append-nil, append_assoc}
-use Rattle.std.specs.Prelude.{unwrap_or}
+use Rattle.std.proofs.Common.{◌≡◌, ◌⊎◌, ℕ, ◌-◌, ◌≤◌, Bool, true, false, List, [], ◌∷◌, ◌++◌, Option, Some, refl, sym, ap, ◌∙◌, subst, inl, inr, ⊎_elim, arith, append-nil, append_assoc, le-leb, length-append}
+use Rattle.std.specs.Prelude.{◌+◌, ◌<◌, nat_lt, length, unwrap_or}
 use Rattle.ep_base.specs.declared.air.CardKind.{CardKind}
 use Rattle.ep_base.specs.Hearing.{Framed, Hearing, Silence, wave_of_kind}
 use Rattle.ep_base.specs.Frame.{sealed}
 use Rattle.ep_base.specs.Medium.{told}
-use Rattle.ep_base.specs.Air.{ArePassages, next_fate}
+use Rattle.ep_base.specs.Air.{ArePassages, AllPass, Leg, next_fate, gone_by, later}
 use Rattle.ep_base.specs.Apdu.{is_command}
 use Rattle.ep_base.specs.Block.{Block, Heard, other, is_bad, count}
 use Rattle.ep_base.specs.Parts.{cut}
@@ -20,13 +20,20 @@ use Rattle.ep_base.specs.LinkFrames.{LinkSetting, heard_block}
 use Rattle.ep_base.specs.Wire.{Heeded, Wire, wire, wire_heeds, moved, unmoved, answers_by, takes_block, maybe_frame, aired, comes_back, by_commands, image_after}
 use Rattle.ep_base.specs.Carry.{SendsBlock, GoesOn, Follows, AtRest, OfLink, AtMostOnce, Executed, OnceSo, CarriedOnce}
 use Rattle.law_link.specs.Once.{IsImage, AreFrames, IsIdle}
-use Rattle.law_link.proofs.Exchange.{Place, Before, reader_at, card_at, Fine, Fits, GoodTurn, log_at, taken, exchange}
+use Rattle.law_link.proofs.Exchange.{Place, Before, reader_at, card_at, Fine, Fits, GoodTurn, Keeps, log_at, taken, exchange, keeps}
 use Rattle.law_link.proofs.Cutting.{cut_joins}
 use Rattle.law_transaction.proofs.Imaging.{answer_is, linked_image}
 use Rattle.law_wire.proofs.Reading.{Sent, sent_block}
-use Rattle.law_wire.proofs.Passing.{MaySend, went, down_law, up_law, next_legs}
+use Rattle.law_wire.proofs.Passing.{MaySend, went, down_law, up_law, next_legs, next_pass, takes_passed, hears_passed}
 use Rattle.law_wire.proofs.Imaging.{Shifted, shifted, after_after, number_after, records_append}
 use Rattle.law_wire.proofs.Placing.{asked_sent, answer_sent}
+
+-- the link wasn't spent
+abbrev pub IsUnspent : Turn → Type 0
+IsUnspent (Asks r) = Unit {0}
+IsUnspent (Gives response r) = Unit {0}
+IsUnspent (Spends r) = ⊥
+IsUnspent (Breaks r) = Unit {0}
 
 module _ (set : LinkSetting) (w0 : Wire) (of : OfLink set w0) where
   abbrev image0 : Images.Image
@@ -143,6 +150,38 @@ module _ (set : LinkSetting) (w0 : Wire) (of : OfLink set w0) where
           later = subst (λ (x : Wire). Shows x (goes_down done_it.down set.frames image card b).card) then done_it.later;
         }
 
+    -- an exchange whose frames pass: the card takes the block, and the reader hears what it answers
+    record Passed (h : Hearing) (u : Wire) : Type 0 where
+      heard : heard_block set.kind set.frames.reader h ≡ comes_up true by_list.block
+      later : Shows u by_list.card
+      gone : u.air.gone ≡ false
+      fates : AllPass u.air.fates
+
+    passed_exchange : MaySend set.frames.reader by_list.block → w.air.gone ≡ false → AllPass w.air.fates → nat_lt (length w.log) w.room ≡ true
+        → (h : Hearing) (u : Wire) → SendsBlock (told wire) set w b (Some h) u → Passed h u
+    passed_exchange may here all free h u e =
+        let pass = next_pass w.air.fates all in
+        let heeded : Heeded = wire_heeds w (wave_of_kind set.kind) (sealed (wave_of_kind set.kind) (spelled b)) in
+        let awake : is_halted w.party.card ≡ false = ap is_halted shows.end ∙ shows.unhalted in
+        let took : heeded ≡ answers_by w.party by_image = takes_passed set.kind w b (sent_block b is) shows.kind awake here free pass.0 ∙ takes_is in
+        let answer : heeded.answer ≡ maybe_frame set.kind by_list.block =
+        ap (λ (x : Heeded). x.answer) took ∙ ap (λ (k : CardKind). maybe_frame k by_image.block) shows.kind ∙ ap (λ (o : Option Block). maybe_frame set.kind o) both.block in
+        let hearing : comes_back (next_fate w.air.fates).up (aired heeded.answer) ≡ h = ap (λ (p : Option Hearing × Wire). unwrap_or p.0 Silence) e in
+        let then : moved w heeded ≡ u = ap (λ (p : Option Hearing × Wire). p.1) e in
+        let stays : (later w.air).gone ≡ false =
+        ap (λ (gone : Bool). gone_by (gone_by gone (next_fate w.air.fates).down) (next_fate w.air.fates).up) here
+        ∙ ap (λ (leg : Leg). gone_by (gone_by false leg) (next_fate w.air.fates).up) pass.0 ∙ ap (λ (leg : Leg). gone_by false leg) pass.1 in
+        record {
+          heard =
+              ap (heard_block set.kind set.frames.reader) (sym hearing)
+              ∙ ap (λ (leg : Leg). heard_block set.kind set.frames.reader (comes_back leg (aired heeded.answer))) pass.1
+              ∙ ap (λ (a : Option Framed). heard_block set.kind set.frames.reader (aired a)) answer
+              ∙ hears_passed set.kind set.frames.reader by_list.block may;
+          later = subst (λ (x : Wire). Shows x by_list.card) then (subst (λ (x : Heeded). Shows (moved w x) by_list.card) (sym took) shows_taken);
+          gone = subst (λ (x : Wire). x.air.gone ≡ false) then stays;
+          fates = subst (λ (x : Wire). AllPass x.air.fates) then pass.2;
+        }
+
   module _ (command : List ℕ) (legal : is_command command ≡ true) where
     sized : AreFrames set.frames
     sized = record { card = of.card_least; reader = of.reader_least }
@@ -229,30 +268,93 @@ module _ (set : LinkSetting) (w0 : Wire) (of : OfLink set w0) where
         let on = subst (λ (k : Heard). GoesOn (λ q v. Follows (told wire) set hs q v turn t) (reader_hears set.frames.reader (At m place s) k) hs follows.0 turn t) x.heard follows.2 in
         then_rest hs (all_hearings hs) turn t _ _ follows.0 good x.later on
 
+    -- ---- where every frame passes
+
+    -- the log has a free record: of the two that were free, the command takes one at most
+    has_room : (w : Wire) (m : Bool) (place : Place) → Shows w (card_at set.frames image [] command m place) → nat_lt (length w.log) w.room ≡ true
+    has_room w m place shows =
+        let card : Card = card_at set.frames image [] command m place in
+        let size : length w.log ≡ length w0.log + length (records image0.number card.log) =
+        ap (λ (l : List (ℕ × List ℕ)). length l) shows.recorded ∙ length-append w0.log (records image0.number card.log) in
+        let few : length (records image0.number card.log) ≤ 1 =
+        ⊎_elim
+        (λ (e : card.log ≡ []). subst (λ (l : List (List ℕ)). length (records image0.number l) ≤ 1) (sym e) (omega arith))
+        (λ (e : card.log ≡ command ∷ []). subst (λ (l : List (List ℕ)). length (records image0.number l) ≤ 1) (sym e) (omega arith))
+        (log_at set.frames image [] command m place) in
+        let two : length w0.log + 2 ≤ w0.room = of.room in
+        let room : w.room ≡ w0.room = shows.room in
+        let free : length w.log < w.room = omega (arith, size, few, two, room) in
+        le-leb _ _ free
+
+    Unspent : List Hearing → Type 0
+    Unspent hs = (m : Bool) (place : Place) (s : List Heard) (w : Wire) (turn : Turn) (t : Wire) → Fine set.frames image [] command place
+        → Fits set.frames image [] command m place s → count is_bad s ≤ 0 → Shows w (card_at set.frames image [] command m place) → w.air.gone ≡ false → AllPass w.air.fates
+        → Follows (told wire) set hs (At m place s) w turn t → IsUnspent turn
+
+    then_unspent : (hs : List Hearing) → Unspent hs → (turn : Turn) (t : Wire) (x : Turn) (card : Card) (u : Wire) → GoodTurn set.frames image [] command x card
+        → Keeps set.frames image [] command 0 x → Shows u card → u.air.gone ≡ false → AllPass u.air.fates
+        → GoesOn (λ q v. Follows (told wire) set hs q v turn t) x hs u turn t → IsUnspent turn
+    unfolding Unspent
+    then_unspent hs rest turn t (Asks r) card u g none shows here all on =
+        let at : Follows (told wire) set hs (At g.0 g.1 g.2) u turn t = subst (λ (q : Reader). Follows (told wire) set hs q u turn t) g.6 on in
+        let there : Shows u (card_at set.frames image [] command g.0 g.1) = subst (λ (c : Card). Shows u c) g.7 shows in
+        let still : count is_bad g.2 ≤ 0 = subst (λ (q : Reader). count is_bad q.since ≤ 0) g.6 none in
+        rest g.0 g.1 g.2 u turn t g.3 g.4 still there here all at
+    then_unspent hs rest turn t (Gives response r) card u g none shows here all on = subst (λ (x : Turn). IsUnspent x) (sym on.1) tt
+    then_unspent hs rest turn t (Spends r) card u g none shows here all on = absurd (omega (arith, none))
+    then_unspent hs rest turn t (Breaks r) card u g none shows here all on = absurd g
+
+    all_unspent : (hs : List Hearing) → Unspent hs
+    unfolding Unspent
+    all_unspent [] m place s w turn t fine fits le shows here all follows = subst (λ (x : Turn). IsUnspent x) (sym follows.0) tt
+    all_unspent (h ∷ hs) m place s w turn t fine fits le shows here all follows =
+        let sent : Sent (asked (At m place s)) = asked_sent set.frames image [] command sized linked reply_is.wtxm_least reply_is.wtxm_most m place s fits in
+        let x = passed_exchange w (card_at set.frames image [] command m place) shows (asked (At m place s)) sent (may_answer m place s fine fits) here all (has_room w m place shows) h follows.0 follows.1 in
+        let good = exchange set.frames image [] command sized linked legal m place s fine fits (omega (arith, le)) true true in
+        let none = keeps set.frames image [] command linked legal m place s fine fits (record { down = true; up = true }) 0 (omega (arith, le)) in
+        let on = subst (λ (k : Heard). GoesOn (λ q v. Follows (told wire) set hs q v turn t) (reader_hears set.frames.reader (At m place s) k) hs follows.0 turn t) x.heard follows.2 in
+        then_unspent hs (all_unspent hs) turn t _ _ follows.0 good none x.later x.gone x.fates on
+
 idle_card : (card : Card) → card.taken ≡ [] → card.left ≡ Parts [] → card.log ≡ [] → card ≡ record { number = card.number; last = card.last; taken = []; left = Parts []; log = [] }
 idle_card card p q e = λ i. record { number = card.number; last = card.last; taken = p i; left = q i; log = e i }
+
+-- a command that is begun between two commands
+module _ (set : LinkSetting) (w : Wire) (r : Reader) (command : List ℕ) (of : OfLink set w) (rest : AtRest r w.party.card) where
+  abbrev first_place : Place
+  first_place = Before w.party.card.last [] (cut (set.frames.card - 3) command).first (cut (set.frames.card - 3) command).others
+
+  begun_at : begin set.frames.card command r ≡ reader_at set.frames (by_commands w.party.image) [] command w.party.card.number first_place []
+  begun_at =
+      ap (λ (n : Bool). record { number = n; phase = Sending (cut (set.frames.card - 3) command).first (cut (set.frames.card - 3) command).others; since = r.since }) rest.differ
+      ∙ ap (λ (l : List Heard). record { number = other w.party.card.number; phase = Sending (cut (set.frames.card - 3) command).first (cut (set.frames.card - 3) command).others; since = l }) rest.fresh
+
+  shows_first : Shows set w of w (card_at set.frames (by_commands w.party.image) [] command w.party.card.number first_place)
+  shows_first = record {
+    end = idle_card w.party.card rest.none_taken rest.none_left rest.none_logged;
+    state = refl;
+    recorded = sym (append-nil w.log);
+    kind = of.kind;
+    frame = of.frame;
+    room = refl;
+    fates = of.fates;
+    unhalted = rest.unhalted;
+  }
+
+  from_first : (hs : List Hearing) (turn : Turn) (t : Wire) → Follows (told wire) set hs (begin set.frames.card command r) w turn t
+      → Follows (told wire) set hs (reader_at set.frames (by_commands w.party.image) [] command w.party.card.number first_place []) w turn t
+  from_first hs turn t follows = subst (λ (q : Reader). Follows (told wire) set hs q w turn t) begun_at follows
 
 pub carried_once_lem : CarriedOnce
 unfolding Rest
 carried_once_lem set w r command hs turn t of rest legal follows =
-    let card : Card = w.party.card in
-    let first = (cut (set.frames.card - 3) command).first in
-    let left = (cut (set.frames.card - 3) command).others in
-    let place : Place = Before w.party.card.last [] (cut (set.frames.card - 3) command).first (cut (set.frames.card - 3) command).others in
-    let still = idle_card w.party.card rest.none_taken rest.none_left rest.none_logged in
-    let reader : begin set.frames.card command r ≡ reader_at set.frames (by_commands w.party.image) [] command w.party.card.number place [] =
-    ap (λ (n : Bool). record { number = n; phase = Sending (cut (set.frames.card - 3) command).first (cut (set.frames.card - 3) command).others; since = r.since }) rest.differ
-    ∙ ap (λ (l : List Heard). record { number = other w.party.card.number; phase = Sending (cut (set.frames.card - 3) command).first (cut (set.frames.card - 3) command).others; since = l }) rest.fresh in
-    let shows : Shows set w of w (card_at set.frames (by_commands w.party.image) [] command w.party.card.number place) = record {
-      end = still;
-      state = refl;
-      recorded = sym (append-nil w.log);
-      kind = of.kind;
-      frame = of.frame;
-      room = refl;
-      fates = of.fates;
-      unhalted = rest.unhalted;
-    } in
-    let from : Follows (told wire) set hs (reader_at set.frames (by_commands w.party.image) [] command w.party.card.number place []) w turn t =
-    subst (λ (q : Reader). Follows (told wire) set hs q w turn t) reader follows in
-    all_hearings set w of command legal hs w.party.card.number place [] w turn t (cut_joins (set.frames.card - 3) command) (refl, inl refl) (omega arith) shows from
+    all_hearings set w of command legal hs w.party.card.number (first_place set w r command of rest) [] w turn t (cut_joins (set.frames.card - 3) command) (refl, inl refl) (omega arith)
+    (shows_first set w r command of rest) (from_first set w r command of rest hs turn t follows)
+
+-- where every frame passes, the link isn't spent
+pub unspent_lem : (set : LinkSetting) (w : Wire) (r : Reader) (command : List ℕ) (hs : List Hearing) (turn : Turn) (t : Wire)
+    → OfLink set w → AtRest r w.party.card → is_command command ≡ true → w.air.gone ≡ false → AllPass w.air.fates
+    → Follows (told wire) set hs (begin set.frames.card command r) w turn t → IsUnspent turn
+unfolding Unspent
+unspent_lem set w r command hs turn t of rest legal here all follows =
+    all_unspent set w of command legal hs w.party.card.number (first_place set w r command of rest) [] w turn t (cut_joins (set.frames.card - 3) command) (refl, inl refl) (omega arith)
+    (shows_first set w r command of rest) here all (from_first set w r command of rest hs turn t follows)

@@ -5,13 +5,13 @@ use Rattle.ep_base.specs.declared.air.CardKind.{CardKind}
 use Rattle.ep_base.specs.declared.air.CardKind.TheVariants as kinds
 use Rattle.ep_base.specs.Hearing.{Silence, Noise, Frame, same_wave, wave_of_kind}
 use Rattle.ep_base.specs.Frame.{HasCheck, is_good, is_bare, hits, after_burst, sealed, opened, without_check}
-use Rattle.ep_base.specs.Air.{Leg, Passes, Loses, Bursts, Leaves, IsLeg, Passage, ArePassages, next_fate, fates_after}
+use Rattle.ep_base.specs.Air.{Leg, Passes, Loses, Bursts, Leaves, IsLeg, Passage, ArePassages, AllPass, next_fate, fates_after}
 use Rattle.ep_base.specs.Block.{Block, Deselect, Heard, Bad, Intact, frame_length}
 use Rattle.ep_base.specs.Link.{comes_up}
 use Rattle.ep_base.specs.CardEnd.{is_halted}
 use Rattle.ep_base.specs.Spelling.{Read, spelled, is_block}
 use Rattle.ep_base.specs.LinkFrames.{heard_block, heard_opened, intact}
-use Rattle.ep_base.specs.Wire.{comes_down, comes_back, burst_down, burst_up, Party, Heeded, unmoved, maybe_frame, takes_block, takes_read, takes_opened, takes_frame, takes_down, aired, Wire, wire_heeds, moved}
+use Rattle.ep_base.specs.Wire.{comes_down, comes_back, burst_down, burst_up, Party, Heeded, unmoved, maybe_frame, takes_block, takes_read, takes_opened, takes_frame, takes_down, aired, Wire, heard_down, wire_heeds, moved}
 use Rattle.rf_frame.proofs.Opening.{ends_sealed, after_burst-missed}
 use Rattle.rf_frame.proofs.BurstLaw.{burst_law}
 use Rattle.law_wire.specs.Whole.{TakenWhole, HeardWhole, NothingIsBad, ClosesQuietly}
@@ -113,6 +113,11 @@ module _ (kind : CardKind) (b : Block) where
         (not (hits (wave_of_kind kind) start mask frame), ap (heard_block kind fsd) heard ∙ heard_hit start mask l (hits (wave_of_kind kind) start mask frame) refl)
     leg_up Leaves l = (false, refl)
 
+-- where every frame passes, the next one does
+pub next_pass : (fates : List Passage) → AllPass fates → ((next_fate fates).down ≡ Passes) × ((next_fate fates).up ≡ Passes) × AllPass (fates_after fates)
+next_pass [] all = (refl, refl, tt)
+next_pass (f ∷ fates) all = all
+
 -- the next fate, and those after it
 pub next_legs : (fates : List Passage) → ArePassages fates → IsLeg (next_fate fates).down × IsLeg (next_fate fates).up × ArePassages (fates_after fates)
 next_legs [] a = (tt, tt, tt)
@@ -124,6 +129,26 @@ pub down_law : (kind : CardKind) (w : Wire) (b : Block) → is_block b ≡ true 
 down_law kind w b is fates =
     comes_or_not kind b w.party is (not w.air.gone && nat_lt (length w.log) w.room) (comes_down (next_fate w.air.fates).down (wave_of_kind kind) (sealed (wave_of_kind kind) (spelled b)))
     (leg_down kind b w.party is (next_fate w.air.fates).down (next_legs w.air.fates fates).0)
+
+-- a card that is there, and listens, takes the block where the frame passes and the log has a free record
+pub takes_passed : (kind : CardKind) (w : Wire) (b : Block) → is_block b ≡ true → w.party.kind ≡ kind → is_halted w.party.card ≡ false
+    → w.air.gone ≡ false → nat_lt (length w.log) w.room ≡ true → (next_fate w.air.fates).down ≡ Passes
+    → wire_heeds w (wave_of_kind kind) (sealed (wave_of_kind kind) (spelled b)) ≡ takes_block w.party b
+takes_passed kind w b is same awake here free pass =
+    let wave = wave_of_kind kind in
+    let bytes = sealed (wave_of_kind kind) (spelled b) in
+    let down : heard_down w (wave_of_kind kind) (sealed (wave_of_kind kind) (spelled b)) ≡ Some (sealed (wave_of_kind kind) (spelled b)) =
+    ap (λ (gone : Bool). if not gone && nat_lt (length w.log) w.room then comes_down (next_fate w.air.fates).down wave bytes else None) here
+    ∙ ap (λ (c : Bool). if c then comes_down (next_fate w.air.fates).down wave bytes else None) free
+    ∙ ap (λ (leg : Leg). comes_down leg wave bytes) pass in
+    let listens : (same_wave (wave_of_kind kind) (wave_of_kind w.party.kind) && not (is_halted w.party.card)) ≡ true =
+    ap (λ (k : CardKind). same_wave wave (wave_of_kind k) && not (is_halted w.party.card)) same
+    ∙ ap (λ (c : Bool). c && not (is_halted w.party.card)) (own_wave kind)
+    ∙ ap (λ (c : Bool). not c) awake in
+    ap (λ (o : Option (List ℕ)). takes_down w.party wave o) down
+    ∙ ap (λ (c : Bool). if c then takes_opened w.party (opened wave bytes) else unmoved w.party) listens
+    ∙ ap (λ (o : Option (List ℕ)). takes_opened w.party o) (opened_spelled kind b)
+    ∙ ap (λ (r : Read). takes_read w.party r) (spelled_reads b is)
 
 -- a block that the reader may hear, if any: one that the card sends, in a frame that the reader takes
 abbrev pub MaySend : ℕ → Option Block → Type 0
@@ -141,6 +166,11 @@ pub up_law : (kind : CardKind) (fsd : ℕ) (o : Option Block) → MaySend fsd o 
     → (up : Bool) × (heard_block kind fsd (comes_back leg (aired (maybe_frame kind o))) ≡ comes_up up o)
 up_law kind fsd None may leg l = (true, silent kind fsd leg)
 up_law kind fsd (Some b) may leg l = leg_up kind b fsd (sent_block b may.0) may.1 leg l
+
+-- where its frame passes, the reader hears it
+pub hears_passed : (kind : CardKind) (fsd : ℕ) (o : Option Block) → MaySend fsd o → heard_block kind fsd (aired (maybe_frame kind o)) ≡ comes_up true o
+hears_passed kind fsd None may = refl
+hears_passed kind fsd (Some b) may = heard_whole kind b fsd (sent_block b may.0) may.1
 
 -- ---- the same as laws
 

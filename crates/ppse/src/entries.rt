@@ -15,8 +15,8 @@ use tlv_core::{one_reading, read};
 
 /// Puts the value of an entry's first primitive object of this tag, where it has one.
 fn put_value(arena: &mut Arena, entry: u16, tag: u32, objects: &[u8])
-    requires { HasSpare (value_cost (first_in false tag (forest_of objects.now))) arena.old }
-    ensures { arena.new ≡ with_value entry tag (first_in false tag (forest_of objects.now)) arena.old }
+    requires { HasSpare (value_cost (first_in false tag (forest_of objects.now))) arena.old.contents }
+    ensures { arena.new.contents ≡ with_value entry tag (first_in false tag (forest_of objects.now)) arena.old.contents }
 {
     let Some(value) = first(objects, tag, false) else {
         return;
@@ -28,8 +28,8 @@ fn put_value(arena: &mut Arena, entry: u16, tag: u32, objects: &[u8])
 
 /// Puts the values of an entry, whose objects these are.
 fn put_entry(arena: &mut Arena, entry: u16, objects: &[u8])
-    requires { HasSpare (entry_cost (entry_in (forest_of objects.now))) arena.old }
-    ensures { arena.new ≡ with_entry entry (entry_in (forest_of objects.now)) arena.old }
+    requires { HasSpare (entry_cost (entry_in (forest_of objects.now))) arena.old.contents }
+    ensures { arena.new.contents ≡ with_entry entry (entry_in (forest_of objects.now)) arena.old.contents }
 {
     put_value(arena, entry, ADF_NAME, objects);
     put_value(arena, entry, APPLICATION_LABEL, objects);
@@ -41,9 +41,9 @@ fn put_entry(arena: &mut Arena, entry: u16, objects: &[u8])
 /// Puts the values of all entries among these objects, entry n in group n, and says how many entries there are.
 pub(crate) fn put_entries(arena: &mut Arena, objects: &[u8]) -> u16
     requires length { length objects.now ≤ 256 }
-    requires spare { HasSpare 256 arena.old }
+    requires spare { HasSpare 256 arena.old.contents }
     ensures count { result ≡ length (entries_of (forest_of objects.now)) }
-    ensures contents { arena.new ≡ with_entries 1 (entries_of (forest_of objects.now)) arena.old }
+    ensures contents { arena.new.contents ≡ with_entries 1 (entries_of (forest_of objects.now)) arena.old.contents }
     ensures cost { entries_cost (entries_of (forest_of objects.now)) ≤ 256 }
 {
     one_reading();

@@ -59,7 +59,7 @@ pub fn read_directory(arena: &mut Arena, answer: &Response) -> Directory
     // As many puts may still come.
     requires serials { arena.old.next + 192 < 2 ^ 64 }
     ensures entries { result.entries ≡ length (directory answer.now) }
-    ensures contents { arena.new ≡ with_entries 1 (directory answer.now) arena.old }
+    ensures contents { arena.new.contents ≡ with_entries 1 (directory answer.now) arena.old.contents }
     // What the groups hold says the entries.
     ensures held { entries_held result.entries arena.new.objects ≡ directory answer.now }
     // Entries that can be candidates.

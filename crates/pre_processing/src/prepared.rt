@@ -135,6 +135,28 @@ impl Prepared {
     {
         self.amount
     }
+
+    /// The same once more, which takes no memory.
+    pub fn copy(&self) -> Prepared
+        ensures { result ≡ self.now }
+    {
+        Prepared {
+            txn_type: self.txn_type,
+            amount: self.amount,
+            list: copy_list(self.list()),
+        }
+    }
+}
+
+fn copy_list(ones: &[PreparedOne]) -> ArrayVec<PreparedOne, 16>
+    requires { length ones.now ≤ 16 }
+    ensures { result.items ≡ ones.now }
+{
+    let mut list = ArrayVec::new();
+    for one in ones {
+        list.push(one.copy());
+    }
+    list
 }
 
 fn some_allowed(ones: &[PreparedOne]) -> bool

@@ -122,8 +122,8 @@ pub(crate) fn combination() -> Combination
     }
 }
 
-/// A kernel that sends one command and approves.
-pub(crate) fn scripts(alloc: Global) -> Result<Scripts, Fail> {
+/// A script that sends one command, and decides so.
+fn script(alloc: Global, outcome: Outcome) -> Result<Script, Fail> {
     let step = Step {
         send: Command::of(b"\x80\xa8\x00\x00\x02\x83\x00\x00").map_err(|_| "no command")?,
         want: 0x9000,
@@ -134,15 +134,33 @@ pub(crate) fn scripts(alloc: Global) -> Result<Scripts, Fail> {
     };
     let mut steps = Vec::new(alloc);
     steps.push(step)?;
-    let script = Script {
+    Ok(Script {
         kernel: 3,
         steps,
-        outcome: Outcome {
-            kind: OutcomeKind::Approved,
-            message: Some(Message::Approved),
-        },
+        outcome,
+    })
+}
+
+const APPROVES: Outcome = Outcome {
+    kind: OutcomeKind::Approved,
+    message: Some(Message::Approved),
+};
+
+/// A kernel that sends one command and approves.
+pub(crate) fn scripts(alloc: Global) -> Result<Scripts, Fail> {
+    let mut list = Vec::new(alloc);
+    list.push(script(alloc, APPROVES)?)?;
+    Ok(Scripts::of(list))
+}
+
+/// A kernel that sends one command at each presentation, and wants a second one before it approves.
+pub(crate) fn again_scripts(alloc: Global) -> Result<Scripts, Fail> {
+    let again = Outcome {
+        kind: OutcomeKind::TryAgain,
+        message: Some(Message::PresentAgain),
     };
     let mut list = Vec::new(alloc);
-    list.push(script)?;
+    list.push(script(alloc, again)?)?;
+    list.push(script(alloc, APPROVES)?)?;
     Ok(Scripts::of(list))
 }

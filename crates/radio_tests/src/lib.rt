@@ -5,3 +5,5 @@
 mod cards;
 #[cfg(test)]
 mod tests;
+#[cfg(test)]
+mod turns;

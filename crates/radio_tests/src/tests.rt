@@ -17,19 +17,19 @@ use std::alloc::Global;
 use std::process::Abort;
 use std::test::Fail;
 
-const UID: &[u8] = b"\x01\x02\x03\x04";
+pub(crate) const UID: &[u8] = b"\x01\x02\x03\x04";
 
-const BEFORE_THE_CARD: &str =
+pub(crate) const BEFORE_THE_CARD: &str =
     "1.1 start type=00 amount=1000\n1.1 pre 1 aid=a0000000031010 kernel=3 allowed=1 status=0 zero=0 floor=0 cvm=0 ttq=-\n1.1 message 15 Present card\n";
 
-const COLLISION: &str = "1.1 message 19 Please present one card only\n";
+pub(crate) const COLLISION: &str = "1.1 message 19 Please present one card only\n";
 
-const CARD: &str = "1.1 card A 01020304\n";
+pub(crate) const CARD: &str = "1.1 card A 01020304\n";
 
-const SELECTIONS: &str =
+pub(crate) const SELECTIONS: &str =
     "1.1 apdu 00a404000e325041592e5359532e444446303100 6f23840e325041592e5359532e4444463031a511bf0c0e610c4f07a00000000310108701019000\n1.1 candidates 1\n1.1 apdu 00a4040007a000000003101000 6f098407a00000000310109000\n1.1 activate 3 combination=1 name=a0000000031010 ttq=- fci=6f098407a0000000031010\n";
 
-const APPROVAL: &str =
+pub(crate) const APPROVAL: &str =
     "1.1 apdu 80a8000002830000 80062000080101009000\n1.1 outcome approved\n1.1 message 03 Approved\n1.1 end done\n";
 
 // What keeps the line of each event.
@@ -60,7 +60,7 @@ impl Events for Report {
 }
 
 // A card of the purchase, alone.
-fn one_card(alloc: Global, wtx: u8) -> Result<Vec<CardPlan>, Fail>
+pub(crate) fn one_card(alloc: Global, wtx: u8) -> Result<Vec<CardPlan>, Fail>
     requires { wtx ≤ 8 }
     ensures { IfOk result (λ v. All PlanFits v.items) }
 {
@@ -250,7 +250,7 @@ fn a_card_that_asks_for_time(rt: HostRuntime) -> Result<(), Fail> {
 }
 
 // The numbers of the cards that are present.
-fn numbers(present: &[u8]) -> Result<Buf<4>, Fail> {
+pub(crate) fn numbers(present: &[u8]) -> Result<Buf<4>, Fail> {
     let mut list = Buf::<4>::new();
     list.try_extend_from_slice(present)?;
     Ok(list)
@@ -281,7 +281,7 @@ fn two_cards_of_which_one_goes_away(rt: HostRuntime) -> Result<(), Fail> {
 }
 
 // A card of each type.
-fn both(alloc: Global) -> Result<Vec<CardPlan>, Fail>
+pub(crate) fn both(alloc: Global) -> Result<Vec<CardPlan>, Fail>
     ensures { IfOk result (λ v. All PlanFits v.items) }
 {
     let mut cards = Vec::new(alloc);

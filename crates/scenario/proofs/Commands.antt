@@ -1,12 +1,12 @@
 -- The lengths of commands.
-use Rattle.std.proofs.Common.{◌≡◌, ℕ, ◌<◌, ◌≤◌, List, length, true, None, Ok, arith}
+use Rattle.std.proofs.Common.{◌≡◌, ℕ, ◌<◌, List, length, true, None, arith}
 use Rattle.std.specs.Prelude.{slice_index}
 use Rattle.std.proofs.lemmas.Bool.Decides.{nat_tests}
-use Rattle.hex.specs.Hex.{decode_of, IsBytes}
+use Rattle.hex.specs.Hex.{decode_of}
 use Rattle.hex.proofs.HexLemmas.{decode_of-ok}
 use Rattle.ep_base.specs.Apdu.{is_command}
 use Rattle.doc_table.specs.Read.{is_within, sized, spelled}
-use Rattle.doc_table.proofs.Texts.{kept, spelled_within}
+use Rattle.doc_table.proofs.Texts.{spelled_within}
 
 command_length : (bytes : List ℕ) → slice_index bytes 4 < 256 → is_command bytes ≡ true → is_within 4 261 (length bytes) ≡ true
 unfolding is_command

@@ -1,5 +1,6 @@
-pub mod Cards
+pub mod Accepted
 pub mod Document
 pub mod Outcomes
 pub mod Plan
+pub mod Scene
 pub mod Scripts

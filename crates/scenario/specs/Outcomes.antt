@@ -14,57 +14,64 @@ use Rattle.ep_base.specs.ReportLine.{kind_word, message_row}
 use Rattle.ep_base.specs.Said.{Verdict}
 use Rattle.doc_table.specs.Read.{◌>>=◌, Reader, of_kind, allowed}
 
+-- The kinds of outcome (EMV Book B).
 abbrev pub all_kinds : List OutcomeKind
 all_kinds =
     outcomes.SelectNext ∷ outcomes.TryAgain ∷ outcomes.Approved ∷ outcomes.Declined ∷ outcomes.OnlineRequest
     ∷ outcomes.TryAnother ∷ outcomes.EndApplication ∷ []
 
+-- The messages (EMV Book A; which of them there are is this project's profile).
 abbrev pub all_messages : List Message
 all_messages =
     messages.Approved ∷ messages.NotAuthorised ∷ messages.PresentCard ∷ messages.Processing ∷ messages.ReadOk
     ∷ messages.InsertOrSwipe ∷ messages.OneCardOnly ∷ messages.TryAnotherCard ∷ messages.PresentAgain ∷ []
 
--- The kind of outcome that has this word.
+-- The kind of outcome that has this word (this project's own).
 abbrev pub kind_named : List ℕ → Option OutcomeKind
 kind_named word = find (λ kind. same_bytes word (kind_word kind)) all_kinds
 
--- The message that has this identifier.
+-- The message that has this identifier (this project's own).
 abbrev pub message_numbered : ℕ → Option Message
 message_numbered n = find (λ message. n == (message_row message).identifier) all_messages
 
--- The message whose identifier two hexadecimal digits spell, in either case.
+-- The message whose identifier two hexadecimal digits spell, in either case (this project's own).
 abbrev pub message_spelled : Result (List ℕ) FromHexError → Option Message
 message_spelled (Ok (b ∷ [])) = message_numbered b
 message_spelled (Ok []) = None
 message_spelled (Ok (b ∷ c ∷ bytes)) = None
 message_spelled (Err e) = None
 
+-- A kind of outcome with a message, where there is one (this project's own).
 abbrev pub with_message : OutcomeKind → Option Message → Option Verdict
 with_message kind (Some message) = Some (record { kind = kind; message = Some message })
 with_message kind None = None
 
+-- A kind of outcome with a message, where there are both (this project's own).
 abbrev pub outcome_with : Option OutcomeKind → Option Message → Option Verdict
 outcome_with (Some kind) message = with_message kind message
 outcome_with None message = None
 
+-- A kind of outcome without a message, where there is one (this project's own).
 abbrev pub outcome_alone : Option OutcomeKind → Option Verdict
 outcome_alone (Some kind) = Some (record { kind = kind; message = None })
 outcome_alone None = None
 
+-- Whether a byte is a space (this project's own).
 abbrev pub is_space : ℕ → Bool
 is_space b = b == 32
 
+-- Whether a text has a space (this project's own).
 abbrev pub has_space : List ℕ → Bool
 has_space text = nat_lt (position_or_len is_space text) (length text)
 
--- The outcome that a text names: the word of a kind; or such a word, one space and the two digits of a message.
+-- The outcome that a text names: the word of a kind; or such a word, one space and the two digits of a message (this project's own).
 abbrev pub outcome_named : List ℕ → Option Verdict
 outcome_named text =
     if has_space text
     then outcome_with (kind_named (before_first is_space text)) (message_spelled (decode_of (after_first is_space text)))
     else outcome_alone (kind_named text)
 
--- An outcome text.
+-- An outcome text (this project's own).
 abbrev pub outcome_text : Reader Verdict
 outcome_text path d = do
   text ← of_kind path (as_str d)

@@ -1,84 +1,87 @@
 -- Transactions, lanes and the root of a document (this project's own).
-use Rattle.std.specs.Prelude.{codes, ℕ, pos, List, [], ◌∷◌, Some, None, Result, Ok}
-use Rattle.std.specs.declared.option.Option.{Option}
+use Rattle.std.specs.Prelude.{codes, ℕ, List, [], ◌∷◌, length, Result, Ok}
 use Rattle.toml.specs.Data.{Members}
+use Rattle.ep_base.specs.Air.{Passage}
 use Rattle.ep_base.specs.Configuration.{Settings}
 use Rattle.ep_base.specs.Kernel.{Script}
 use Rattle.doc_table.specs.Fault.{Fault}
-use Rattle.doc_table.specs.Path.{key_path}
-use Rattle.doc_table.specs.declared.fault.DocKind.TheVariants.{NotBuilt}
 use Rattle.doc_table.specs.declared.list.ElementKind.TheVariants as elements
-use Rattle.doc_table.specs.Read.{◌>>=◌, Reader, Place, fails, place_of, table_of, optional, required, defaulted, unbuilt, integer_in, list_of, only_of}
+use Rattle.doc_table.specs.Read.{◌>>=◌, Reader, Place, place_of, table_of, required, defaulted, unbuilt, integer_in, list_of, only_of}
 use Rattle.acquirer_config.specs.Config.{config_at}
-use Rattle.scenario.specs.Cards.{Card, card}
+use Rattle.card_table.specs.Cards.{Card, cards_at}
+use Rattle.fate_table.specs.Fates.{fates_at}
+use Rattle.fate_table.specs.Presence.{presence_at}
 use Rattle.scenario.specs.Scripts.{script}
 
--- A transaction.
+-- A transaction: its type and amount, its cards, which of them are present in each round, what becomes of the frames of each exchange, and the scripts
+-- of its kernels (this project's own).
 pub record Transaction : Type 0 where
   pub txn_type : ℕ
   pub amount : ℕ
-  pub card : Card
+  pub cards : List Card
+  pub presence : List (List ℕ)
+  pub fates : List Passage
   pub scripts : List Script
 
--- A document: the configuration, and each lane's transactions.
+-- A document: the configuration, the reader's frame size code, and each lane's transactions (this project's own).
 pub record Plan : Type 0 where
   pub config : Settings
+  pub fsdi : ℕ
   pub lanes : List (List Transaction)
 
-abbrev pub built_cards : List ℕ → Option Card → Result Card Fault
-built_cards path (Some c) = Ok c
-built_cards path None = fails NotBuilt path (pos 0)
-
--- The card. No other number of cards than one is built yet, and a list that isn't there is an empty one.
-abbrev pub card_of : Place → Result Card Fault
-card_of place = do
-  found ← optional (only_of elements.Table 0 4 card) (codes "cards") place
-  built_cards (key_path place.path (codes "cards")) found
-
+-- The keys of a transaction, in the order in which they are checked (this project's own).
 abbrev pub transaction_keys : List (List ℕ)
 transaction_keys = codes "type" ∷ codes "amount" ∷ codes "cards" ∷ codes "presence" ∷ codes "fates" ∷ codes "scripts" ∷ []
 
+-- The scripts of a transaction's kernels (this project's own).
+abbrev pub scripts_at : Place → Result (List Script) Fault
+scripts_at place = defaulted [] (list_of elements.Table 0 4 script) (codes "scripts") place
+
+-- What a transaction's table says (this project's own).
 unfoldable pub transaction_at : Place → Result Transaction Fault
 transaction_at place = do
   txn_type ← required (integer_in 0 255) (codes "type") place
   amount ← required (integer_in 0 999999999999) (codes "amount") place
-  card ← card_of place
-  no_presence ← unbuilt (codes "presence") place
-  no_fates ← unbuilt (codes "fates") place
-  scripts ← defaulted [] (list_of elements.Table 0 4 script) (codes "scripts") place
-  Ok (record { txn_type = txn_type; amount = amount; card = card; scripts = scripts })
+  cards ← cards_at place
+  presence ← presence_at (length cards) place
+  fates ← fates_at place
+  scripts ← scripts_at place
+  Ok (record { txn_type = txn_type; amount = amount; cards = cards; presence = presence; fates = fates; scripts = scripts })
 
--- A transaction's table.
+-- A transaction's table (this project's own).
 abbrev pub transaction : Reader Transaction
 transaction path d = do
   place ← table_of transaction_keys path d
   transaction_at place
 
+-- The keys of a lane (this project's own).
 abbrev pub lane_keys : List (List ℕ)
 lane_keys = codes "transactions" ∷ []
 
--- A lane's table.
+-- A lane's table (this project's own).
 abbrev pub lane : Reader (List Transaction)
 lane path d = do
   place ← table_of lane_keys path d
   required (list_of elements.Table 1 64 transaction) (codes "transactions") place
 
+-- The keys of the root, in the order in which they are checked (this project's own).
 abbrev pub root_keys : List (List ℕ)
 root_keys =
     codes "version" ∷ codes "fsdi" ∷ codes "exponent" ∷ codes "combinations" ∷ codes "lanes" ∷ codes "turns"
     ∷ codes "trace" ∷ []
 
+-- What the table of the root says (this project's own; FSDI is that of ISO/IEC 14443-4).
 unfoldable pub plan_at : Place → Result Plan Fault
 plan_at root = do
   version ← required (integer_in 1 1) (codes "version") root
-  no_fsdi ← unbuilt (codes "fsdi") root
+  fsdi ← defaulted 8 (integer_in 0 8) (codes "fsdi") root
   config ← config_at root
   one ← required (only_of elements.Table 1 8 lane) (codes "lanes") root
   no_turns ← unbuilt (codes "turns") root
   no_trace ← unbuilt (codes "trace") root
-  Ok (record { config = config; lanes = one ∷ [] })
+  Ok (record { config = config; fsdi = fsdi; lanes = one ∷ [] })
 
--- What the members of a document's root mean.
+-- What the members of a document's root mean (this project's own).
 abbrev pub plan : Members → Result Plan Fault
 plan members = do
   root ← place_of root_keys [] members

@@ -1,106 +1,110 @@
-//! A transaction of the document, and its table.
-ghost use Rattle.std.specs.Prelude.{◌≡◌, ◌+◌, ◌≤◌, [], codes, length};
-ghost use Rattle.doc_table.specs.Read.{GivesIfRoom, defaulted, list_of};
-ghost use Rattle.doc_table.specs.declared.list.ElementKind.TheVariants as elements;
-ghost use Rattle.doc_table.specs.Section.{place};
-ghost use Rattle.scenario.specs.Plan.{transaction_at, card_of};
-ghost use Rattle.scenario.specs.Scripts.{script};
+//! Transactions that are about to begin, with all the memory that they take.
+ghost use Rattle.std.specs.Prelude.{◌≡◌, ◌+◌, ◌≤◌, length, map, IfOk};
+ghost use Rattle.ep_base.specs.Configuration.{count_of};
+ghost use Rattle.ep_base.specs.Kernel.{steps_left};
+ghost use Rattle.law_run.specs.Bounds.{log_bound};
+ghost use Rattle.scenario.specs.Scene.{work_of};
+ghost use Rattle.scenario.specs.Scripts.{AreScripts};
 
-use crate::card::{Card, CardTable};
-use crate::script::ScriptTable;
-use doc_table::{DocKind, ListOf, OnlyOne, Path, Read, Section, TableEnd};
-use kernel_port::Script;
+use crate::transaction::Transaction;
+use acquirer_config::Config;
+use card_table::plans_of;
+use ep_base::NoMemory;
+use kernel_port::{Script, Scripts};
+use rf_field::Field;
 use std::alloc::Global;
 use std::marker::Model;
-use toml::Value;
 
-/// A transaction, its card, and the scripts of its kernels.
+/// A transaction that is about to begin: the field of its cards, in which no round was begun, and its kernels.
 #[derive(Drop)]
 pub struct Job {
     /// The transaction type, one byte.
     pub txn_type: u8,
     /// The amount in minor units.
     pub amount: u64,
-    /// The card.
-    pub card: Card,
-    /// The scripts in their order.
-    pub scripts: Vec<Script>,
+    /// The field of its cards.
+    pub field: Field,
+    /// The kernels, none of which runs.
+    pub scripts: Scripts,
 }
 
 impl Model for Job {
-    ghost use Rattle.scenario.specs.Plan.{Transaction};
-    ghost use Rattle.scenario.specs.Scripts.{AreScripts};
+    ghost use Rattle.kernel_port.specs.Scripts.{scripted_of};
+    ghost use Rattle.rf_field.specs.Fields.{field_of};
+    ghost use Rattle.scenario.specs.Scene.{Work};
 
-    ghost Value = { Transaction };
+    ghost Value = { Work };
 
-    ghost view = { λ j. record { txn_type = j.txn_type; amount = j.amount; card = j.card; scripts = j.scripts.items } };
-
-    ghost invariant = { λ j. AreScripts j.scripts.items };
+    ghost view = { λ j. record { txn_type = j.txn_type; amount = j.amount; field = field_of j.field; scripts = scripted_of j.scripts } };
 }
 
-const KEYS: [&str; 6] = ["type", "amount", "cards", "presence", "fates", "scripts"];
-
-/// Reads a transaction's table.
-#[derive(Clone, Copy, Debug)]
-pub struct TransactionTable;
-
-impl Read for TransactionTable {
-    ghost use Rattle.scenario.specs.Plan.{Transaction, transaction};
-
-    type Out = Job;
-
-    ghost Meaning = { Transaction };
-
-    ghost seen = { λ j. j };
-
-    ghost reads = { λ _. transaction };
-
-    ghost room = { 55 };
-
-    fn read(&self, alloc: Global, path: &Path, value: &Value) -> Result<Job, TableEnd> {
-        let section = Section::of_value(path, value, &KEYS)?;
-        transaction_at(alloc, &section)
-    }
-}
-
-#[tactic(auto, unfolding(crate::specs::Plan::transaction_at))]
-fn transaction_at(alloc: Global, section: &Section) -> Result<Job, TableEnd>
-    requires { length section.now.path.now + 55 ≤ 96 }
-    ensures { GivesIfRoom (λ j. j) result (transaction_at (place section.now)) }
+/// Takes the memory of a lane's transactions.
+///
+/// Errors: `NoMemory`.
+pub(crate) fn open_lane(
+    alloc: Global,
+    config: &Config,
+    lane: Vec<Transaction>,
+) -> Result<Vec<Job>, NoMemory>
+    ensures { IfOk result (λ v. v.items ≡ map (work_of config.now) lane.items) }
 {
-    let txn_type = section.required_integer("type", 0, 255)?;
-    let amount = section.required_integer("amount", 0, 999_999_999_999)?;
-    let card = card_of(alloc, section)?;
-    section.unbuilt("presence")?;
-    section.unbuilt("fates")?;
-    let scripts = scripts_of(alloc, section)?;
-    Ok(Job {
-        txn_type: txn_type as u8,
+    let mut jobs = Vec::new(alloc);
+    for transaction in lane {
+        let job = open_job(alloc, config, transaction)?;
+        if jobs.push(job).is_err() {
+            return Err(NoMemory);
+        }
+    }
+    Ok(jobs)
+}
+
+// Takes the memory of a transaction.
+fn open_job(alloc: Global, config: &Config, transaction: Transaction) -> Result<Job, NoMemory>
+    ensures { IfOk result (λ j. j ≡ work_of config.now transaction) }
+{
+    let Transaction {
+        txn_type,
         amount,
-        card,
+        cards,
+        presence,
+        fates,
         scripts,
+    } = transaction;
+    let room = room_for(config, txn_type, &scripts);
+    let plans = plans_of(alloc, cards)?;
+    let field = Field::open(alloc, plans, presence, fates, room)?;
+    Ok(Job {
+        txn_type,
+        amount,
+        field,
+        scripts: Scripts::of(scripts),
     })
 }
 
-// The one card. A list that isn't there is an empty one, and only one card is built yet.
-fn card_of(alloc: Global, section: &Section) -> Result<Card, TableEnd>
-    requires { length section.now.path.now + 55 ≤ 96 }
-    ensures { GivesIfRoom (λ c. c) result (card_of (place section.now)) }
+// How many records a transaction's log has room for: one more than the most commands that it sends.
+fn room_for(config: &Config, txn_type: u8, scripts: &[Script]) -> usize
+    requires { AreScripts scripts.now }
+    ensures { result ≡ log_bound (length scripts.now) (count_of txn_type config.now.list) (steps_left scripts.now) + 1 }
 {
-    let cards = OnlyOne {
-        list: ListOf::tables(0, 4, CardTable),
-    };
-    match section.optional(alloc, "cards", &cards)? {
-        Some(card) => Ok(card),
-        None => Err(TableEnd::Fault(section.fault("cards", DocKind::NotBuilt, 0))),
-    }
+    let combinations = config
+        .list()
+        .iter()
+        .filter(|c| c.txn_type == txn_type)
+        .count();
+    (1 + scripts.len()) * (1 + 28 * combinations) + count_steps(scripts) + 1
 }
 
-// The scripts.
-fn scripts_of(alloc: Global, section: &Section) -> Result<Vec<Script>, TableEnd>
-    requires { length section.now.path.now + 55 ≤ 96 }
-    ensures { GivesIfRoom (λ v. v.items) result (defaulted [] (list_of elements.Table 0 4 script) (codes "scripts") (place section.now)) }
+// The steps of all scripts.
+fn count_steps(scripts: &[Script]) -> usize
+    requires { AreScripts scripts.now }
+    ensures value { result ≡ steps_left scripts.now }
+    ensures few { result ≤ 64 }
 {
-    let tables = ListOf::tables(0, 4, ScriptTable);
-    section.defaulted(alloc, "scripts", &tables, Vec::new(alloc))
+    let mut count = 0usize;
+    let mut rest = scripts;
+    'each: while let Some((script, others)) = rest.split_first() {
+        count += script.steps.len();
+        rest = others;
+    }
+    count
 }

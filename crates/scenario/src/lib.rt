@@ -1,15 +1,17 @@
 //! The document of a run: tables of keys, read from TOML bytes with the first fault.
 #![tactic(auto)]
 
-mod app;
-mod card;
+mod document;
 mod job;
 mod outcome;
 mod scenario;
 mod script;
+mod transaction;
 
 pub use acquirer_config::{Config, DocFault, DocKind};
-pub use card::Card;
-pub use card_image::{App, Rule};
+pub use document::Document;
 pub use job::Job;
+pub use kernel_port::Scripts;
+pub use rf_field::Field;
 pub use scenario::{DocEnd, Scenario};
+pub use transaction::Transaction;

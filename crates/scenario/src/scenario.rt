@@ -1,16 +1,20 @@
 //! A document whole.
-ghost use Rattle.std.specs.Prelude.{◌≡◌, [], map};
+ghost use Rattle.std.specs.Prelude.{◌≡◌, map, IfOk, IfErr};
 ghost use Rattle.toml.specs.View.{table_view};
-ghost use Rattle.doc_table.specs.Read.{GivesIfRoom};
-ghost use Rattle.doc_table.specs.Section.{place};
-ghost use Rattle.scenario.specs.Plan.{plan_at, plan};
+ghost use Rattle.doc_table.specs.Read.{FailsSo};
+ghost use Rattle.scenario.specs.Document.{Says};
+ghost use Rattle.scenario.specs.Plan.{plan};
+ghost use Rattle.scenario.specs.Scene.{work_of, scene_of};
 
-use crate::job::{Job, TransactionTable};
+use crate::document::{Document, plan};
+use crate::job::{Job, open_lane};
+use crate::transaction::Transaction;
 use acquirer_config::{Config, DocFault};
-use doc_table::{ListOf, OnlyOne, Path, Read, Section, TableEnd};
+use doc_table::TableEnd;
+use ep_base::NoMemory;
 use std::alloc::Global;
 use std::marker::Model;
-use toml::{Table, Value};
+use toml::Table;
 
 /// Why bytes gave no scenario.
 #[derive(Debug, Drop)]
@@ -23,22 +27,25 @@ pub enum DocEnd {
     NoMemory,
 }
 
-/// What a document says: the configuration, and the transactions of each lane in their order.
+/// What a document says, with all the memory that its transactions take: the configuration, the code of the reader's
+/// frame size, and the transactions of each lane in their order.
 #[derive(Drop)]
 pub struct Scenario {
     /// The configuration.
     pub config: Config,
+    /// The code of the reader's frame size, 0 to 8.
+    pub fsdi: u8,
     /// The lanes, each with its transactions.
     pub lanes: Vec<Vec<Job>>,
 }
 
 impl Model for Scenario {
     ghost use Rattle.std.specs.Prelude.{map};
-    ghost use Rattle.scenario.specs.Plan.{Plan};
+    ghost use Rattle.scenario.specs.Scene.{Scene};
 
-    ghost Value = { Plan };
+    ghost Value = { Scene };
 
-    ghost view = { λ s. record { config = s.config; lanes = map (λ lane. lane.items) s.lanes.items } };
+    ghost view = { λ s. record { config = s.config; fsdi = s.fsdi; lanes = map (λ lane. lane.items) s.lanes.items } };
 }
 
 impl Scenario {
@@ -52,7 +59,7 @@ impl Scenario {
         ensures { Answers bytes.now result }
     {
         match toml::table_from_slice(alloc, bytes) {
-            Ok(table) => match plan(alloc, &table) {
+            Ok(table) => match of_table(alloc, &table) {
                 Ok(scenario) => Ok(scenario),
                 Err(TableEnd::NoMemory) => Err(DocEnd::NoMemory),
                 Err(TableEnd::Fault(fault)) => Err(DocEnd::Fault(fault)),
@@ -66,69 +73,51 @@ impl Scenario {
             }
         }
     }
-}
 
-const LANE_KEYS: [&str; 1] = ["transactions"];
-
-const ROOT_KEYS: [&str; 7] = [
-    "version",
-    "fsdi",
-    "exponent",
-    "combinations",
-    "lanes",
-    "turns",
-    "trace",
-];
-
-// Reads a lane's table.
-#[derive(Clone, Copy, Debug)]
-struct LaneTable;
-
-impl Read for LaneTable {
-    ghost use Rattle.std.specs.Prelude.{List};
-    ghost use Rattle.scenario.specs.Plan.{Transaction, lane};
-
-    type Out = Vec<Job>;
-
-    ghost Meaning = { List Transaction };
-
-    ghost seen = { λ v. v.items };
-
-    ghost reads = { λ _. lane };
-
-    ghost room = { 75 };
-
-    fn read(&self, alloc: Global, path: &Path, value: &Value) -> Result<Vec<Job>, TableEnd> {
-        let section = Section::of_value(path, value, &LANE_KEYS)?;
-        let transactions = ListOf::tables(1, 64, TransactionTable);
-        let jobs = section.required(alloc, "transactions", &transactions)?;
-        Ok(jobs)
+    /// The scenario of a document, with all the memory that its transactions take.
+    ///
+    /// Errors: `NoMemory`.
+    pub fn open(alloc: Global, document: Document) -> Result<Scenario, NoMemory>
+        ensures { IfOk result (λ s. s ≡ scene_of document) }
+    {
+        let Document {
+            config,
+            fsdi,
+            lanes,
+        } = document;
+        let lanes = open_lanes(alloc, &config, lanes)?;
+        Ok(Scenario {
+            config,
+            fsdi,
+            lanes,
+        })
     }
 }
 
-fn plan(alloc: Global, table: &Table) -> Result<Scenario, TableEnd>
-    ensures { GivesIfRoom (λ s. s) result (plan (table_view table.now)) }
+// What a document's root says.
+fn of_table(alloc: Global, table: &Table) -> Result<Scenario, TableEnd>
+    ensures says { IfOk result (λ s. Says (table_view table.now) s) }
+    ensures fault { IfErr result (λ e. FailsSo e (plan (table_view table.now))) }
 {
-    let path = Path::root();
-    let root = Section::open(&path, table, &ROOT_KEYS)?;
-    plan_at(alloc, &root)
+    let document = plan(alloc, table)?;
+    let scenario = Scenario::open(alloc, document)?;
+    Ok(scenario)
 }
 
-#[tactic(auto, unfolding(crate::specs::Plan::plan_at))]
-fn plan_at(alloc: Global, root: &Section) -> Result<Scenario, TableEnd>
-    requires { root.now.path.now ≡ [] }
-    ensures { GivesIfRoom (λ s. s) result (plan_at (place root.now)) }
+// Takes the memory of the transactions of all lanes.
+fn open_lanes(
+    alloc: Global,
+    config: &Config,
+    lanes: Vec<Vec<Transaction>>,
+) -> Result<Vec<Vec<Job>>, NoMemory>
+    ensures { IfOk result (λ v. map (λ jobs. jobs.items) v.items ≡ map (λ lane. map (work_of config.now) lane) (map (λ lane. lane.items) lanes.items)) }
 {
-    let _version = root.required_integer("version", 1, 1)?;
-    root.unbuilt("fsdi")?;
-    let config = Config::of_table(alloc, root.table())?;
-    let lanes = OnlyOne {
-        list: ListOf::tables(1, 8, LaneTable),
-    };
-    let lane = root.required(alloc, "lanes", &lanes)?;
-    root.unbuilt("turns")?;
-    root.unbuilt("trace")?;
-    let mut lanes = Vec::new(alloc);
-    lanes.push(lane)?;
-    Ok(Scenario { config, lanes })
+    let mut all = Vec::new(alloc);
+    for lane in lanes {
+        let jobs = open_lane(alloc, config, lane)?;
+        if all.push(jobs).is_err() {
+            return Err(NoMemory);
+        }
+    }
+    Ok(all)
 }

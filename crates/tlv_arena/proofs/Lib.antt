@@ -1,2 +1,7 @@
-pub mod Slots
+pub mod Held
+pub mod Lists
+pub mod Pulls
 pub mod Rising
+pub mod Room
+pub mod Slide
+pub mod Slots

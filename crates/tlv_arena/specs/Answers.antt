@@ -6,17 +6,20 @@ use Rattle.tlv_arena.specs.declared.Full.{Full}
 use Rattle.tlv_arena.specs.declared.ReplaceEnd.{ReplaceEnd}
 use Rattle.tlv_arena.specs.declared.ReplaceEnd.TheVariants as ends
 
--- The two live counts.
+-- the two live counts (this project's own)
 abbrev pub Counts : Contents → Full → Type 0
 Counts c full = (full.live ≡ live_bytes c.objects) × (full.slots ≡ length c.objects)
 
+-- a put has room and gives the next serial, or has none and tells the two counts (this project's own)
 abbrev pub PutAnswer : Contents → ℕ → Result ObjId Full → Type 0
 PutAnswer c len (Ok id) = HasRoom len c × (id.serial ≡ c.next)
 PutAnswer c len (Err full) = (HasRoom len c → ⊥) × Counts c full
 
+-- an object has this serial (this project's own)
 abbrev pub IsLive : ℕ → Contents → Type 0
 IsLive serial c = IsSome (value_of serial c.objects)
 
+-- a replacement is done, finds no object, or finds no room (this project's own)
 abbrev pub ReplaceAnswer : Contents → ℕ → List ℕ → Result (Unit {0}) ReplaceEnd → Type 0
 ReplaceAnswer c serial value (Ok done) = IsLive serial c × HasRoomFor serial value c
 ReplaceAnswer c serial value (Err ends.Gone) = value_of serial c.objects ≡ None

@@ -1,10 +1,10 @@
--- What a call means (this project's own).
+-- What a call means.
 use Rattle.std.specs.Prelude.{List, map}
 use Rattle.ep_base.specs.Arena.{Call, put, replace, remove, drop_group, clear, relocate}
 use Rattle.tlv_arena.specs.declared.calls.ArenaCall.{ArenaCall}
 use Rattle.tlv_arena.specs.declared.calls.ArenaCall.TheVariants.{Put, Replace, Remove, DropGroup, Clear, Relocate}
 
--- The call that a value names.
+-- the call that a value names (this project's own)
 abbrev pub call_of : ArenaCall → Call
 call_of (Put group tag value) = put group tag value.now
 call_of (Replace id value) = replace id.serial value.now
@@ -13,5 +13,6 @@ call_of (DropGroup group) = drop_group group
 call_of Clear = clear
 call_of Relocate = relocate
 
+-- the calls that values name (this project's own)
 abbrev pub calls_of : List ArenaCall → List Call
 calls_of calls = map call_of calls

@@ -1,4 +1,5 @@
-pub mod StoreState
 pub mod Answers
 pub mod ArenaState
 pub mod Calls
+pub mod Layout
+pub mod StoreState

@@ -35,8 +35,8 @@ pub enum ArenaCall<'a> {
 impl Arena {
     /// Makes one call, and leaves its answer out.
     fn make(&mut self, call: &ArenaCall<'_>)
-        requires { kept.HasSerial (call_of call.now) self.old }
-        ensures { self.new ≡ kept.after (call_of call.now) self.old }
+        requires { kept.HasSerial (call_of call.now) self.old.contents }
+        ensures { self.new.contents ≡ kept.after (call_of call.now) self.old.contents }
     {
         match call {
             ArenaCall::Put { group, tag, value } => {
@@ -61,8 +61,8 @@ impl Arena {
     /// Whatever the calls are, what the arena then holds is what they make, one after the other, of what it held. `get`
     /// lends the value of each object that is live then.
     pub fn make_all(&mut self, calls: &[ArenaCall<'_>])
-        requires { kept.HaveSerials (calls_of calls.now) self.old }
-        ensures { self.new ≡ kept.after_all (calls_of calls.now) self.old }
+        requires { kept.HaveSerials (calls_of calls.now) self.old.contents }
+        ensures { self.new.contents ≡ kept.after_all (calls_of calls.now) self.old.contents }
     {
         for call in calls {
             self.make(call);

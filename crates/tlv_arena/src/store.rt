@@ -1,125 +1,190 @@
-//! The slots of an arena, each with a buffer of its own.
-ghost use Rattle.std.specs.Prelude.{◌≡◌, ℕ, ◌+◌, ◌-◌, ◌<◌, ◌≤◌, [], ◌∷◌, ◌++◌, length, vec_len, slice_index_or, MatchOption, IfOk, remove};
-ghost use Rattle.tlv_arena.specs.StoreState.{IsAbsent, IsAt, objects_of};
+//! The table of an arena's live objects, and the one block in which their values lie.
+ghost use Rattle.std.specs.Prelude.{◌≡◌, ℕ, ◌+◌, ◌-◌, ◌<◌, ◌≤◌, [], ◌∷◌, ◌++◌, length, vec_len, IfOk, remove, get_or};
+ghost use Rattle.std.specs.List.{AllByRecursion};
 ghost use Rattle.ep_base.specs.Arena as kept;
+ghost use Rattle.tlv_arena.specs.StoreState.{Done};
 
+use crate::lookup::lowest;
+use crate::slot::Slot;
 use ep_base::NoMemory;
+use raw_block::RawBlock;
 use std::alloc::Global;
 
-/// One live object, with a buffer of its own.
-#[derive(Drop)]
-pub(crate) struct Slot {
-    pub(crate) serial: u64,
-    pub(crate) group: u16,
-    pub(crate) tag: u32,
-    pub(crate) value: Vec<u8>,
-}
-
-/// The live objects in the order of their puts, and the buffers that hold none.
+/// The live objects in the order of their puts, and the block in which their values lie.
 #[derive(Drop)]
 pub(crate) struct Store {
+    pub(crate) block: RawBlock,
     pub(crate) live: Vec<Slot>,
-    pub(crate) spare: Vec<Vec<u8>>,
     pub(crate) used: usize,
-    pub(crate) bytes: usize,
-}
-
-/// Where the object with this serial is.
-pub(crate) fn place_of(slots: &[Slot], serial: u64) -> Option<usize>
-    ensures { MatchOption result (IsAbsent serial slots.now) (λ i. IsAt serial i slots.now) }
-{
-    for (i, slot) in slots.iter().enumerate() {
-        if slot.serial == serial {
-            return Some(i);
-        }
-    }
-    None
+    pub(crate) slots: usize,
 }
 
 impl Store {
     ghost use Rattle.ep_base.specs.Arena.{Object, live_bytes};
-    ghost use Rattle.tlv_arena.specs.StoreState.{IsStore, Becomes, object_of, slots_of, with_value};
+    ghost use Rattle.tlv_arena.specs.StoreState.{IsStore, Becomes, IsPacked, objects_of, with_value};
 
-    /// Takes all the memory that the slots ever need.
+    /// Takes all the memory that the store ever needs.
+    ///
+    /// Errors: `NoMemory` where it can't be had.
     pub(crate) fn open(alloc: Global, bytes: usize, slots: usize) -> Result<Store, NoMemory>
+        requires bytes { (1 ≤ bytes) × (bytes ≤ 65536) }
         ensures store { IfOk result IsStore }
         ensures empty { IfOk result (λ s. s.live.items ≡ []) }
-        ensures slots { IfOk result (λ s. slots_of s ≡ slots) }
-        ensures bytes { IfOk result (λ s. s.bytes ≡ bytes) }
+        ensures slots { IfOk result (λ s. s.slots ≡ slots) }
+        ensures bytes { IfOk result (λ s. s.block.cap ≡ bytes) }
     {
         let live = Vec::with_capacity(alloc, slots).map_err(|_| NoMemory)?;
-        let mut spare = Vec::with_capacity(alloc, slots).map_err(|_| NoMemory)?;
-        for _ in 0..slots {
-            let buffer = Vec::with_capacity(alloc, bytes).map_err(|_| NoMemory)?;
-            spare.push(buffer).map_err(|_| NoMemory)?;
-        }
+        let block = RawBlock::open(alloc, bytes)?;
         Ok(Store {
+            block,
             live,
-            spare,
             used: 0,
-            bytes,
+            slots,
         })
     }
 
-    /// Adds an object at the end, in a buffer that holds none.
-    pub(crate) fn append(&mut self, serial: u64, group: u16, tag: u32, value: &[u8])
-        requires store { IsStore self.old }
-        requires room { self.old.used + length value.now ≤ self.old.bytes }
-        requires slot { 0 < vec_len self.old.spare }
-        ensures { Becomes self.old (objects_of self.old.live.items ++ (record { serial = serial; group = group; tag = tag; value = value.now }) ∷ []) self.new }
+    /// Slides the lowest value with bytes that lies at `to` or above down to `to`, and says how many bytes it has: 0
+    /// where there is none.
+    fn pull(&mut self, to: usize) -> usize
+        requires { IsPacked to self.old }
+        ensures packed { IsPacked (to + result) self.new }
+        ensures objects { Becomes self.old (objects_of self.old) self.new }
+        ensures done { result ≡ 0 → AllByRecursion (Done to) self.new.live.items }
     {
-        let Some(mut buffer) = self.spare.pop() else {
-            unreachable!()
+        let Some(i) = lowest(self.live.as_slice(), to) else {
+            return 0;
         };
-        buffer.clear();
-        let Ok(()) = buffer.extend_from_slice(value) else {
-            unreachable!()
-        };
+        let slot = self.live[i];
+        self.block.slide(slot.place, to, slot.len);
+        self.live[i] = Slot { place: to, ..slot };
+        slot.len
+    }
+
+    /// Slides all values together at the start of the block, in the order of their places, and frees the rest.
+    pub(crate) fn relocate(&mut self)
+        requires { IsStore self.old }
+        ensures becomes { Becomes self.old (objects_of self.old) self.new }
+        ensures length { length self.new.block.bytes ≡ self.new.used }
+    {
+        let mut to = 0;
+        let mut moved = self.pull(0);
+        while moved > 0 {
+            to += moved;
+            moved = self.pull(to);
+        }
+        self.block.cut(to);
+    }
+
+    /// Relocates where the tail has no room for so many bytes.
+    fn make_room(&mut self, len: usize)
+        requires store { IsStore self.old }
+        requires room { self.old.used + len ≤ self.old.block.cap }
+        ensures becomes { Becomes self.old (objects_of self.old) self.new }
+        ensures tail { length self.new.block.bytes + len ≤ self.new.block.cap }
+    {
+        if len > self.block.cap() - self.block.len() {
+            self.relocate();
+        }
+    }
+
+    /// Where the next value is to lie, which has `len` bytes.
+    fn tail(&self, len: usize) -> usize
+        ensures none { len ≡ 0 → result ≡ 0 }
+        ensures some { 0 < len → result ≡ length self.now.block.bytes }
+    {
+        if len == 0 { 0 } else { self.block.len() }
+    }
+
+    /// Gives the object at this index, which has no bytes, a value.
+    fn fill(&mut self, i: usize, value: &[u8])
+        requires store { IsStore self.old }
+        requires place { i < vec_len self.old.live }
+        requires empty { (o : Object) → o ≡ get_or (objects_of self.old) i o → o.value ≡ [] }
+        requires room { self.old.used + length value.now ≤ self.old.block.cap }
+        ensures { Becomes self.old (with_value (objects_of self.old) i value.now) self.new }
+    {
+        self.make_room(value.len());
+        let slot = self.live[i];
+        let place = self.tail(value.len());
+        self.block.append(value);
         self.used += value.len();
+        self.live[i] = Slot {
+            place,
+            len: value.len(),
+            ..slot
+        };
+    }
+
+    /// Gives the object at this index no bytes.
+    fn empty(&mut self, i: usize)
+        requires store { IsStore self.old }
+        requires place { i < vec_len self.old.live }
+        ensures { Becomes self.old (with_value (objects_of self.old) i []) self.new }
+    {
+        let slot = self.live[i];
+        self.used -= slot.len;
+        self.live[i] = Slot {
+            place: 0,
+            len: 0,
+            ..slot
+        };
+    }
+
+    /// Adds an object with no bytes at the end.
+    fn append(&mut self, serial: u64, group: u16, tag: u32)
+        requires store { IsStore self.old }
+        requires slot { vec_len self.old.live < self.old.slots }
+        ensures { Becomes self.old (objects_of self.old ++ (record { serial = serial; group = group; tag = tag; value = [] }) ∷ []) self.new }
+    {
         let slot = Slot {
             serial,
             group,
             tag,
-            value: buffer,
+            place: 0,
+            len: 0,
         };
         let Ok(()) = self.live.push(slot) else {
             unreachable!()
         };
     }
 
-    /// Takes the object at this place out.
+    /// Takes the object at this index out.
     pub(crate) fn take_out(&mut self, i: usize)
         requires store { IsStore self.old }
         requires place { i < vec_len self.old.live }
-        ensures { Becomes self.old (remove (objects_of self.old.live.items) i) self.new }
+        ensures { Becomes self.old (remove (objects_of self.old) i) self.new }
     {
         let slot = self.live.remove(i);
-        self.used -= slot.value.len();
-        let Ok(()) = self.spare.push(slot.value) else {
-            unreachable!()
-        };
+        self.used -= slot.len;
     }
 
-    /// Gives the object at this place another value.
+    /// Adds an object at the end.
+    pub(crate) fn put(&mut self, serial: u64, group: u16, tag: u32, value: &[u8])
+        requires store { IsStore self.old }
+        requires room { self.old.used + length value.now ≤ self.old.block.cap }
+        requires slot { vec_len self.old.live < self.old.slots }
+        ensures { Becomes self.old (objects_of self.old ++ (record { serial = serial; group = group; tag = tag; value = value.now }) ∷ []) self.new }
+    {
+        let last = self.live.len();
+        self.append(serial, group, tag);
+        self.fill(last, value);
+    }
+
+    /// Gives the object at this index another value.
     pub(crate) fn rewrite(&mut self, i: usize, value: &[u8])
         requires store { IsStore self.old }
         requires place { i < vec_len self.old.live }
-        requires room { live_bytes (with_value (objects_of self.old.live.items) i value.now) ≤ self.old.bytes }
-        ensures { Becomes self.old (with_value (objects_of self.old.live.items) i value.now) self.new }
+        requires room { live_bytes (with_value (objects_of self.old) i value.now) ≤ self.old.block.cap }
+        ensures { Becomes self.old (with_value (objects_of self.old) i value.now) self.new }
     {
-        let slot = &mut self.live[i];
-        self.used -= slot.value.len();
-        slot.value.clear();
-        let Ok(()) = slot.value.extend_from_slice(value) else {
-            unreachable!()
-        };
-        self.used += value.len();
+        self.empty(i);
+        self.fill(i, value);
     }
 
     /// Takes all objects of a group out, and says how many there were.
     pub(crate) fn drop_group(&mut self, group: u16) -> usize
         requires { IsStore self.old }
-        ensures becomes { Becomes self.old (kept.without_group group (objects_of self.old.live.items)) self.new }
+        ensures becomes { Becomes self.old (kept.without_group group (objects_of self.old)) self.new }
         ensures count { result + vec_len self.new.live ≡ vec_len self.old.live }
     {
         let before = self.live.len();
@@ -139,9 +204,8 @@ impl Store {
         requires { IsStore self.old }
         ensures { Becomes self.old [] self.new }
     {
-        while !self.live.is_empty() {
-            let last = self.live.len() - 1;
-            self.take_out(last);
-        }
+        self.live.clear();
+        self.used = 0;
+        self.block.cut(0);
     }
 }

@@ -1,3 +1,7 @@
+ghost use Rattle.std.specs.Prelude.{◌≡◌};
+ghost use Rattle.std.specs.Option.{option_map};
+ghost use Rattle.ep_base.specs.Arena.{value_of};
+
 use crate::{Arena, ArenaCall, Full, ObjId, ReplaceEnd};
 
 fn holds(arena: &Arena, id: ObjId, value: &[u8]) -> bool {
@@ -5,6 +9,15 @@ fn holds(arena: &Arena, id: ObjId, value: &[u8]) -> bool {
         Some(found) => found == value,
         None => false,
     }
+}
+
+/// What the block has at the place of an object, as many bytes as its value has: it is the value.
+fn read_in_block(arena: &Arena, id: ObjId) -> Option<&[u8]>
+    ensures { option_map (λ v. v.now) result ≡ value_of id.serial arena.now.objects }
+{
+    let place = arena.place(id)?;
+    let len = arena.get(id)?.len();
+    Some(arena.block().view(place, len))
 }
 
 #[test]
@@ -32,8 +45,38 @@ fn free_room_in_pieces(rt: HostRuntime) {
     assert_eq!(rt; arena.live_slots(), 1);
     arena.relocate();
     assert!(rt; holds(&arena, third, &[3; 34]));
+    assert_eq!(rt; arena.block().len(), 34);
     arena.clear();
     assert_eq!(rt; arena.live_bytes(), 0);
+}
+
+#[test]
+fn many_guests_beside_one_that_stays(rt: HostRuntime) {
+    let mut arena = Arena::open(rt.alloc(), 1024, 3)
+        .ok()
+        .expect(&rt, "it opens");
+    let low = arena.put(1, 1, &[7; 200]).ok().expect(&rt, "200 bytes fit");
+    let stays = arena.put(1, 2, &[1; 256]).ok().expect(&rt, "256 more fit");
+    assert!(rt; arena.remove(low));
+    for _ in 0..448u32 {
+        let guest = arena.put(2, 3, &[2; 256]).ok().expect(&rt, "256 bytes fit");
+        assert!(rt; holds(&arena, guest, &[2; 256]));
+        assert!(rt; arena.remove(guest));
+    }
+    assert!(rt; holds(&arena, stays, &[1; 256]));
+    let large = arena.put(3, 4, &[3; 768]).ok().expect(&rt, "768 bytes fit");
+    assert!(rt; holds(&arena, large, &[3; 768]));
+    assert_eq!(rt; arena.block().cap(), 1024);
+    assert_eq!(rt; arena.place(stays), Some(0));
+    assert_eq!(rt; arena.place(large), Some(256));
+    assert_eq!(rt; arena.replace(stays, &[4; 250]), Ok(()));
+    assert!(rt; arena.remove(large));
+    assert_eq!(rt; arena.place(large), None);
+    arena.relocate();
+    assert_eq!(rt; arena.place(stays), Some(0));
+    assert_eq!(rt; arena.block().len(), 250);
+    assert_eq!(rt; arena.live_bytes(), 250);
+    assert!(rt; arena.block().view(0, 250) == [4; 250].as_slice());
 }
 
 #[test]

@@ -1,7 +1,7 @@
 //! The keys of an application on a card.
 
 use super::{array, changed, check_faults, check_limits, check_refused};
-use scenario::DocKind::{BadValue, Missing, NotBuilt, TooMany, UnknownKey, WrongKind};
+use scenario::DocKind::{BadValue, Missing, TooMany, UnknownKey, WrongKind};
 use std::test::Fail;
 
 const TABLE: &str = "lanes[1].transactions[1].cards[1].apps[1]";
@@ -64,21 +64,27 @@ fn answers_to_select(rt: HostRuntime) -> Result<(), Fail> {
 }
 
 #[test]
-fn waiting_of_a_select_is_not_built(rt: HostRuntime) -> Result<(), Fail> {
+fn waiting_of_a_select(rt: HostRuntime) -> Result<(), Fail> {
     let rows = [
-        ("name = 'a000000004'\nwtx = 0", NotBuilt, ".wtx", 0),
-        ("name = 'a000000004'\nwtx = 9", NotBuilt, ".wtx", 0),
-        ("name = 'a000000004'\nwtx = 'x'", NotBuilt, ".wtx", 0),
-        ("name = 'a000000004'\nwtxm = 1", NotBuilt, ".wtxm", 0),
-        ("name = 'a000000004'\nwtxm = 60", NotBuilt, ".wtxm", 0),
+        ("name = 'a000000004'\nwtx = -1", BadValue, ".wtx", -1),
+        ("name = 'a000000004'\nwtx = 9", BadValue, ".wtx", 9),
+        ("name = 'a000000004'\nwtx = 'x'", WrongKind, ".wtx", 0),
+        ("name = 'a000000004'\nwtxm = 0", BadValue, ".wtxm", 0),
+        ("name = 'a000000004'\nwtxm = 60", BadValue, ".wtxm", 60),
+        ("name = 'a000000004'\nwtxm = true", WrongKind, ".wtxm", 0),
         (
-            "name = 'a000000004'\nwtxm = 1\nwtx = 1",
-            NotBuilt,
+            "name = 'a000000004'\nwtxm = 60\nwtx = 9",
+            BadValue,
             ".wtx",
-            0,
+            9,
         ),
     ];
-    check_faults(&rt, TABLE, NAME, &rows)
+    check_faults(&rt, TABLE, NAME, &rows)?;
+    let texts = [
+        "name = 'a000000004'\nwtx = 0\nwtxm = 1",
+        "name = 'a000000004'\nwtx = 8\nwtxm = 59",
+    ];
+    check_limits(&rt, NAME, &texts)
 }
 
 #[test]

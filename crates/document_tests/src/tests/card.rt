@@ -1,7 +1,7 @@
 //! The keys of a card.
 
 use super::{array, changed, check_faults, check_limits, check_refused};
-use scenario::DocKind::{BadValue, Missing, NotBuilt, TooMany, UnknownKey, WrongKind};
+use scenario::DocKind::{BadValue, Missing, TooMany, UnknownKey, WrongKind};
 use std::test::Fail;
 
 const TABLE: &str = "lanes[1].transactions[1].cards[1]";
@@ -24,7 +24,7 @@ fn kind(rt: HostRuntime) -> Result<(), Fail> {
         ("kind = 'é'", BadValue, ".kind", 2),
         ("kind = 'AB'", BadValue, ".kind", 2),
         ("kind = 'raw'", BadValue, ".kind", 3),
-        ("kind = 'B'", NotBuilt, ".kind", 0),
+        ("kind = 'B'", UnknownKey, "", 4),
     ];
     check_faults(&rt, TABLE, KIND, &rows)
 }
@@ -35,7 +35,7 @@ fn kind_before_the_other_keys(rt: HostRuntime) -> Result<(), Fail> {
         ("zz = 1", Missing, ".kind", 0),
         ("zz = 1\nkind = true", WrongKind, ".kind", 0),
         ("zz = 1\nkind = 'C'", BadValue, ".kind", 1),
-        ("zz = 1\nkind = 'B'", NotBuilt, ".kind", 0),
+        ("zz = 1\nkind = 'B'", UnknownKey, "", 4),
         ("zz = 1\nkind = 'A'", UnknownKey, "", 5),
     ];
     check_faults(&rt, TABLE, KIND, &rows)
@@ -83,13 +83,26 @@ fn uid(rt: HostRuntime) -> Result<(), Fail> {
 }
 
 #[test]
-fn sak_is_not_built(rt: HostRuntime) -> Result<(), Fail> {
+fn sak(rt: HostRuntime) -> Result<(), Fail> {
     let rows = [
-        ("kind = 'A'\nsak = '20'", NotBuilt, ".sak", 0),
-        ("kind = 'A'\nsak = '24'", NotBuilt, ".sak", 0),
-        ("kind = 'A'\nsak = 20", NotBuilt, ".sak", 0),
+        ("kind = 'A'\nsak = 20", WrongKind, ".sak", 0),
+        ("kind = 'A'\nsak = ['20']", WrongKind, ".sak", 0),
+        ("kind = 'A'\nsak = ''", BadValue, ".sak", 0),
+        ("kind = 'A'\nsak = '2'", BadValue, ".sak", 1),
+        ("kind = 'A'\nsak = '2g'", BadValue, ".sak", 2),
+        ("kind = 'A'\nsak = '2020'", BadValue, ".sak", 4),
+        ("kind = 'A'\nsak = '04'", BadValue, ".sak", 2),
+        ("kind = 'A'\nsak = '24'", BadValue, ".sak", 2),
+        ("kind = 'A'\nsak = 'fF'", BadValue, ".sak", 2),
     ];
-    check_faults(&rt, TABLE, KIND, &rows)
+    check_faults(&rt, TABLE, KIND, &rows)?;
+    let texts = [
+        "kind = 'A'\nsak = '20'",
+        "kind = 'A'\nsak = '00'",
+        "kind = 'A'\nsak = '28'",
+        "kind = 'A'\nsak = 'Fb'",
+    ];
+    check_limits(&rt, KIND, &texts)
 }
 
 #[test]

@@ -1,7 +1,9 @@
 //! Documents with more than one fault: the first one in the order of the tables is told.
 
 use super::{CARD, COMBINATION, DOCUMENT, check_faults, check_refused};
-use scenario::DocKind::{self, BadValue, Missing, NotBuilt, TooMany, UnknownKey, WrongKind};
+use scenario::DocKind::{
+    self, BadValue, Conflict, Missing, NotBuilt, TooMany, UnknownKey, WrongKind,
+};
 use std::alloc::AllocGlobal;
 use std::process::Abort;
 use std::test::Fail;
@@ -14,7 +16,13 @@ fn keys_of_the_root_in_order(rt: HostRuntime) -> Result<(), Fail> {
         ("lanes = []", Missing, "version", 0),
         ("version = 2", BadValue, "version", 2),
         ("version = 2\nfsdi = 1", BadValue, "version", 2),
-        ("version = 1\nexponent = 9\nfsdi = 1", NotBuilt, "fsdi", 0),
+        ("version = 1\nexponent = 9\nfsdi = 9", BadValue, "fsdi", 9),
+        (
+            "version = 1\nexponent = 9\nfsdi = 1",
+            BadValue,
+            "exponent",
+            9,
+        ),
         (
             "version = 1\ncombinations = 1\nexponent = 9",
             BadValue,
@@ -143,9 +151,9 @@ fn keys_of_a_transaction_in_order(rt: HostRuntime) -> Result<(), Fail> {
             -1,
         ),
         (
-            "{type = 0, amount = 0, presence = 1}",
-            NotBuilt,
-            ".cards",
+            "{type = 0, amount = 0, presence = 1, fates = 1}",
+            WrongKind,
+            ".presence",
             0,
         ),
         (
@@ -155,14 +163,20 @@ fn keys_of_a_transaction_in_order(rt: HostRuntime) -> Result<(), Fail> {
             0,
         ),
         (
-            "{type = 0, amount = 0, cards = [{kind = 'A', uid = '01020304'}], fates = 1, presence = 1}",
-            NotBuilt,
-            ".presence",
-            0,
+            "{type = 0, amount = 0, cards = [{kind = 'A', uid = '01020304'}, {kind = 'A', uid = '01020304'}], presence = 1}",
+            Conflict,
+            ".cards[2].uid",
+            1,
+        ),
+        (
+            "{type = 0, amount = 0, cards = [{kind = 'A', uid = '01020304'}], fates = 1, presence = [[2]]}",
+            BadValue,
+            ".presence[1][1]",
+            2,
         ),
         (
             "{type = 0, amount = 0, cards = [{kind = 'A', uid = '01020304'}], fates = 1, scripts = 1}",
-            NotBuilt,
+            WrongKind,
             ".fates",
             0,
         ),
@@ -182,10 +196,10 @@ fn keys_of_a_card_in_order(rt: HostRuntime) -> Result<(), Fail> {
             8,
         ),
         (
-            "kind = 'A'\nuid = '01020304'\nhistorical = 1\nsak = '20'",
-            NotBuilt,
+            "kind = 'A'\nuid = '01020304'\nhistorical = 1\nsak = '24'",
+            BadValue,
             ".sak",
-            0,
+            2,
         ),
         (
             "kind = 'A'\nuid = '01020304'\nfsci = 9\nhistorical = 1",
@@ -238,8 +252,14 @@ fn keys_of_an_application_in_order(rt: HostRuntime) -> Result<(), Fail> {
         ),
         ("name = 'a000000004'\nwtxm = 1", Missing, ".select", 0),
         (
-            "name = 'a000000004'\nwtxm = 1\nselect = ['9000']",
-            NotBuilt,
+            "name = 'a000000004'\nwtxm = 0\nwtx = 9\nselect = ['9000']",
+            BadValue,
+            ".wtx",
+            9,
+        ),
+        (
+            "name = 'a000000004'\nwtxm = 0\nselect = ['9000']",
+            BadValue,
             ".wtxm",
             0,
         ),
@@ -266,10 +286,10 @@ fn keys_of_a_rule_in_order(rt: HostRuntime) -> Result<(), Fail> {
             1,
         ),
         (
-            "prefix = '80'\nwtxm = 1\nwtx = 1\nresponses = ['9000']",
-            NotBuilt,
+            "prefix = '80'\nwtxm = 0\nwtx = 9\nresponses = ['9000']",
+            BadValue,
             ".wtx",
-            0,
+            9,
         ),
     ];
     let part = "prefix = \"80a8\"\nresponses = [\"80009000\"]";

@@ -55,11 +55,24 @@ fn exponent(rt: HostRuntime) -> Result<(), Fail> {
 }
 
 #[test]
+fn frame_size_of_the_reader(rt: HostRuntime) -> Result<(), Fail> {
+    let rows = [
+        ("version = 1\nfsdi = -1", BadValue, "fsdi", -1),
+        ("version = 1\nfsdi = 9", BadValue, "fsdi", 9),
+        ("version = 1\nfsdi = '8'", WrongKind, "fsdi", 0),
+        ("version = 1\nfsdi = [8]", WrongKind, "fsdi", 0),
+    ];
+    check_faults(&rt, "", VERSION, &rows)?;
+    check_limits(
+        &rt,
+        VERSION,
+        &["version = 1\nfsdi = 0", "version = 1\nfsdi = 8"],
+    )
+}
+
+#[test]
 fn keys_that_are_not_built(rt: HostRuntime) -> Result<(), Fail> {
     let rows = [
-        ("version = 1\nfsdi = 8", NotBuilt, "fsdi", 0),
-        ("version = 1\nfsdi = 9", NotBuilt, "fsdi", 0),
-        ("version = 1\nfsdi = '8'", NotBuilt, "fsdi", 0),
         ("version = 1\nturns = []", NotBuilt, "turns", 0),
         ("version = 1\nturns = [2]", NotBuilt, "turns", 0),
         ("version = 1\ntrace = []", NotBuilt, "trace", 0),

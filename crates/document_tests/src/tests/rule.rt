@@ -1,7 +1,7 @@
 //! The keys of a rule of an application.
 
 use super::{array, changed, check_faults, check_limits, check_refused};
-use scenario::DocKind::{BadValue, Missing, NotBuilt, TooMany, UnknownKey, WrongKind};
+use scenario::DocKind::{BadValue, Missing, TooMany, UnknownKey, WrongKind};
 use std::test::Fail;
 
 const TABLE: &str = "lanes[1].transactions[1].cards[1].apps[1].rules[1]";
@@ -57,14 +57,21 @@ fn responses(rt: HostRuntime) -> Result<(), Fail> {
 }
 
 #[test]
-fn waiting_of_a_rule_is_not_built(rt: HostRuntime) -> Result<(), Fail> {
+fn waiting_of_a_rule(rt: HostRuntime) -> Result<(), Fail> {
     let rows = [
-        ("prefix = '80'\nwtx = 0", NotBuilt, ".wtx", 0),
-        ("prefix = '80'\nwtx = 9", NotBuilt, ".wtx", 0),
-        ("prefix = '80'\nwtxm = 59", NotBuilt, ".wtxm", 0),
-        ("prefix = '80'\nwtxm = '1'", NotBuilt, ".wtxm", 0),
+        ("prefix = '80'\nwtx = -1", BadValue, ".wtx", -1),
+        ("prefix = '80'\nwtx = 9", BadValue, ".wtx", 9),
+        ("prefix = '80'\nwtx = 1.0", WrongKind, ".wtx", 0),
+        ("prefix = '80'\nwtxm = 0", BadValue, ".wtxm", 0),
+        ("prefix = '80'\nwtxm = 60", BadValue, ".wtxm", 60),
+        ("prefix = '80'\nwtxm = '1'", WrongKind, ".wtxm", 0),
     ];
-    check_faults(&rt, TABLE, PREFIX, &rows)
+    check_faults(&rt, TABLE, PREFIX, &rows)?;
+    let texts = [
+        "prefix = '80'\nwtx = 0\nwtxm = 1",
+        "prefix = '80'\nwtx = 8\nwtxm = 59",
+    ];
+    check_limits(&rt, PREFIX, &texts)
 }
 
 #[test]

@@ -3,7 +3,7 @@
 use super::{
     CARD, SCRIPT, array, changed, check_accepted, check_faults, check_limits, check_refused,
 };
-use scenario::DocKind::{BadValue, Missing, NotBuilt, TooMany, UnknownKey, WrongKind};
+use scenario::DocKind::{BadValue, Conflict, Missing, TooMany, UnknownKey, WrongKind};
 use std::test::Fail;
 
 const TABLE: &str = "lanes[1].transactions[1]";
@@ -54,15 +54,12 @@ fn unknown_keys_of_a_transaction(rt: HostRuntime) -> Result<(), Fail> {
 #[test]
 fn how_many_cards(rt: HostRuntime) -> Result<(), Fail> {
     let rows = [
-        ("", NotBuilt, ".cards", 0),
-        ("cards = []\n", NotBuilt, ".cards", 0),
         ("cards = {}\n", WrongKind, ".cards", 0),
         ("cards = 1\n", WrongKind, ".cards", 0),
         ("cards = [1]\n", WrongKind, ".cards", 0),
         ("cards = [{}, 'A']\n", WrongKind, ".cards", 0),
         ("cards = [{}]\n", Missing, ".cards[1].kind", 0),
-        ("cards = [{}, {}]\n", NotBuilt, ".cards", 2),
-        ("cards = [{}, {}, {}, {}]\n", NotBuilt, ".cards", 4),
+        ("cards = [{}, {}]\n", Missing, ".cards[1].kind", 0),
         ("cards = [{}, {}, {}, {}, {}]\n", TooMany, ".cards", 5),
     ];
     check_faults(&rt, TABLE, CARD, &rows)?;
@@ -71,24 +68,11 @@ fn how_many_cards(rt: HostRuntime) -> Result<(), Fail> {
     check_refused(
         &rt,
         document.as_str(),
-        (NotBuilt, "lanes[1].transactions[1].cards", 2),
+        (Conflict, "lanes[1].transactions[1].cards[2].uid", 1),
     );
-    Ok(())
-}
-
-#[test]
-fn keys_of_a_transaction_that_are_not_built(rt: HostRuntime) -> Result<(), Fail> {
-    let rows = [
-        ("amount = 1000\npresence = []", NotBuilt, ".presence", 0),
-        ("amount = 1000\npresence = [[1]]", NotBuilt, ".presence", 0),
-        ("amount = 1000\npresence = [[2]]", NotBuilt, ".presence", 0),
-        ("amount = 1000\npresence = 1", NotBuilt, ".presence", 0),
-        ("amount = 1000\nfates = []", NotBuilt, ".fates", 0),
-        ("amount = 1000\nfates = ['- x']", NotBuilt, ".fates", 0),
-        ("amount = 1000\nfates = [0, true]", NotBuilt, ".fates", 0),
-        ("amount = 1000\nfates = 'x x'", NotBuilt, ".fates", 0),
-    ];
-    check_faults(&rt, TABLE, AMOUNT, &rows)
+    let four =
+        "cards = [{kind = 'A', uid = '01020304'}, {kind = 'A', uid = '01020305'}, {kind = 'B', pupi = '01020304'}, {kind = 'B', pupi = '01020305'}]\n";
+    check_limits(&rt, CARD, &["", "cards = []\n", four])
 }
 
 #[test]
@@ -130,7 +114,12 @@ fn a_later_transaction(rt: HostRuntime) -> Result<(), Fail> {
     let rows = [
         ("{}", Missing, ".type", 0),
         ("{type = 0, amount = -5}", BadValue, ".amount", -5),
-        ("{type = 0, amount = 5}", NotBuilt, ".cards", 0),
+        (
+            "{type = 0, amount = 5, scripts = 1}",
+            WrongKind,
+            ".scripts",
+            0,
+        ),
         ("{type = 0, a = 5}", UnknownKey, "", 1),
     ];
     for (last, kind, key, number) in rows {

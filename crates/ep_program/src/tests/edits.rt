@@ -43,3 +43,20 @@ pub fn check_edited(
     let report = edited(rt, REPORT, report)?;
     check_purchase(rt, edits, report.as_str())
 }
+
+/// The purchase with the first edits and then one with the others, which leave these two reports.
+pub fn check_two(
+    rt: &HostRuntime,
+    edits: &[(&str, &str)],
+    others: &[(&str, &str)],
+    first: &str,
+    second: &str,
+) -> Result<(), Fail> {
+    let text = purchase(rt, NAME)?;
+    let (_, transaction) = text.as_str().split_once("[[lanes]]\n").ok_or("no lane")?;
+    let one = edited(rt, text.as_str(), edits)?;
+    let other = edited(rt, transaction, others)?;
+    let document = format!(in rt.alloc(); "{one}{other}")?;
+    let wanted = format!(in rt.alloc(); "{first}{second}")?;
+    check_report(rt, document.as_str(), wanted.as_str())
+}

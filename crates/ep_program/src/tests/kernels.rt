@@ -1,7 +1,7 @@
 //! Purchases whose kernels ask for another application or for the card again, several purchases, and a usual one.
 
-use super::edits::{check_edited, check_purchase, check_report, edited};
-use super::{NAME, REPORT, purchase};
+use super::REPORT;
+use super::edits::{check_edited, check_purchase, check_report, check_two, edited};
 use std::test::Fail;
 
 const SCRIPT: &str = "[[lanes.transactions.scripts]]
@@ -98,25 +98,10 @@ fn a_status_word_that_is_not_wanted(rt: HostRuntime) -> Result<(), Fail> {
     check_edited(&rt, &document, &report)
 }
 
-// The purchase and then another one, which leave these two reports.
-fn check_both(
-    rt: &HostRuntime,
-    edits: &[(&str, &str)],
-    first: &str,
-    second: &str,
-) -> Result<(), Fail> {
-    let text = purchase(rt, NAME)?;
-    let (_, transaction) = text.as_str().split_once("[[lanes]]\n").ok_or("no lane")?;
-    let other = edited(rt, transaction, edits)?;
-    let document = format!(in rt.alloc(); "{text}{other}")?;
-    let wanted = format!(in rt.alloc(); "{first}{second}")?;
-    check_report(rt, document.as_str(), wanted.as_str())
-}
-
 #[test]
 fn two_purchases(rt: HostRuntime) -> Result<(), Fail> {
     let second = edited(&rt, REPORT, &[("1.1 ", "1.2 ")])?;
-    check_both(&rt, &[], REPORT, second.as_str())
+    check_two(&rt, &[], &[], REPORT, second.as_str())
 }
 
 #[test]
@@ -136,7 +121,7 @@ fn a_second_card_without_directory(rt: HostRuntime) -> Result<(), Fail> {
 1.2 log 1 00a404000e325041592e5359532e444446303100
 ";
     let list = format!(in rt.alloc(); "[\"{directory}\"]")?;
-    check_both(&rt, &[(list.as_str(), "[]")], REPORT, second)
+    check_two(&rt, &[], &[(list.as_str(), "[]")], REPORT, second)
 }
 
 /// A purchase of 25.00 with two schemes, a card with a UID of seven bytes, and a kernel that asks to go online.

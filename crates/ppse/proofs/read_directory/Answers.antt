@@ -11,7 +11,7 @@ use Rattle.ppse.proofs.read_directory.Goals as goal
 pub returns-clause-held : goal.returns-clause-held
 returns-clause-held c =
     let es = entries_of (forest_of c.in-Some.objects.now) in
-    let base = held 1 es c.args.arena.now (λ g t le. ap (value_in g t) c.requires.empty) in
+    let base = held 1 es c.args.arena.now.contents (λ g t le. ap (value_in g t) c.requires.empty) in
     ap (λ (n : ℕ). held_from 1 n c.put_entries.new.arena.objects) c.put_entries.ensures.count
     ∙ ap (λ (k : Contents). held_from 1 (length es) k.objects) c.put_entries.ensures.contents ∙ base ∙ sym c.in-Some.ensures.entries
 
@@ -25,7 +25,7 @@ returns-clause-room c =
     let es = entries_of (forest_of c.in-Some.objects.now) in
     omega (
       arith,
-      load_entries 1 es c.args.arena.now,
+      load_entries 1 es c.args.arena.now.contents,
       c.put_entries.ensures.cost,
       ap live_bytes c.requires.empty,
       ap (length {A = Object}) c.requires.empty,
@@ -38,7 +38,7 @@ returns-clause-next c =
     let es = entries_of (forest_of c.in-Some.objects.now) in
     omega (
       arith,
-      (kept_entries 1 es c.args.arena.now).0,
+      (kept_entries 1 es c.args.arena.now.contents).0,
       ap (length {A = Object}) c.requires.empty,
       ap (λ (k : Contents). k.next) c.put_entries.ensures.contents,
       ap (λ (k : Contents). length k.objects) c.put_entries.ensures.contents,
@@ -47,5 +47,5 @@ returns-clause-next c =
 pub returns-clause-capacities : goal.returns-clause-capacities
 returns-clause-capacities c =
     let es = entries_of (forest_of c.in-Some.objects.now) in
-    let k = kept_entries 1 es c.args.arena.now in
+    let k = kept_entries 1 es c.args.arena.now.contents in
     (ap (λ (d : Contents). d.bytes) c.put_entries.ensures.contents ∙ k.1, ap (λ (d : Contents). d.slots) c.put_entries.ensures.contents ∙ k.2)

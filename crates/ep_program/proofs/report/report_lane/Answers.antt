@@ -1,34 +1,45 @@
-use Rattle.std.proofs.Common.{rules, arith, ◌≡◌, ◌≤◌, ◌∙◌, ap, sym, subst, List, [], ◌∷◌, map, All, length}
-use Rattle.std.specs.Io.KnownBytes.{Appends}
+use Rattle.std.proofs.Common.{rules, arith, ◌≡◌, ◌≤◌, ◌∙◌, refl, ap, sym, subst, List, [], ◌∷◌, All, length}
+use Rattle.std.specs.Vec.Iter.{into_iter_items, into_iter_len}
 use Rattle.std.proofs.lemmas.List.Elements.{All-head, All-tail}
-use Rattle.ep_program.specs.Headline.{Opened, IsFresh, purchases_text}
-use Rattle.ep_program.specs.Purchase.{opened_of}
-use Rattle.ep_program.proofs.Appending.{whole_next, part_next, part_front, whole_nothing, empty_rest}
+use Rattle.ep_program.specs.Headline.{IsFresh, purchases_text}
+use Rattle.ep_program.specs.Lines.{AppendsEach, AppendsPartOfEach}
+use Rattle.ep_program.proofs.Each.{whole_purchase, part_purchase, front_purchase, no_purchase, nothing_left}
 use Rattle.ep_program.proofs.report.report_lane.Goals as goal
 
-pub report-requires : goal.report-requires
-report-requires g c =
-    let split = ap (map opened_of) c.in-Some.ensures.items in
-    All-head (IsFresh c.args.config.now) _ _ (subst (All (IsFresh c.args.config.now)) split c.each.invariant.fresh)
+pub loop-job-init : goal.loop-job-init
+loop-job-init g c =
+    let is : into_iter_items c.into_iter-job-iterator.result ≡ c.args.jobs.items = c.into_iter-job-iterator.ensures.into_iter_gives.0 in
+    record {
+      left = search rules;
+      fresh = subst (All (IsFresh c.args.config.now c.args.fsdi)) (sym is) c.requires.fresh;
+      count = omega (arith, ap length is, c.requires.few);
+      ok = λ w h. subst (λ l. AppendsEach (purchases_text c.args.config.now c.args.fsdi c.args.lane 1 l) (g.K.Sink.written c.args.output.now) w) is h;
+      err = λ w h. subst (λ l. AppendsPartOfEach (purchases_text c.args.config.now c.args.fsdi c.args.lane 1 l) (g.K.Sink.written c.args.output.now) w) is h;
+      told = refl;
+      later = omega arith;
+    }
 
 pub returns-in-Err-clause-err : goal.returns-in-Err-clause-err
 returns-in-Err-clause-err g c =
-    let split = ap (λ items. purchases_text c.args.config.now c.args.lane c.each.txn (map opened_of items)) c.in-Some.ensures.items in
-    c.each.invariant.err _ (part_front _ _ _ _ _ split c.in-Err.ensures.err)
+    c.loop-job.invariant.err _ (front_purchase c.args.config.now c.args.fsdi c.args.lane c.loop-job.txn _ _ _ c.in-Some.ensures.steps.0 _ _ c.in-Err.ensures.err)
 
-pub each-preserved : goal.each-preserved
-each-preserved g c =
-    let split = ap (λ items. purchases_text c.args.config.now c.args.lane c.each.txn (map opened_of items)) c.in-Some.ensures.items in
+pub loop-job-preserved : goal.loop-job-preserved
+loop-job-preserved g c =
+    let at = c.loop-job in
+    let split = c.in-Some.ensures.steps.0 in
+    let longer = ap length split in
+    let fewer = c.in-Some.ensures.steps.1 in
     record {
-      fresh = All-tail (IsFresh c.args.config.now) _ _ (subst (All (IsFresh c.args.config.now)) (ap (map opened_of) c.in-Some.ensures.items) c.each.invariant.fresh);
-      count = omega (arith, ap length c.in-Some.ensures.items, c.each.invariant.count);
-      ok = λ w h. c.each.invariant.ok w (whole_next _ _ _ _ _ split c.in-Ok.ensures.ok w h);
-      err = λ w h. c.each.invariant.err w (part_next _ _ _ _ _ split c.in-Ok.ensures.ok w h);
-      told = c.in-Ok.ensures.told ∙ c.each.invariant.told;
-      later = omega (arith, c.in-Ok.ensures.cause.later, c.each.invariant.later);
+      left = omega (arith, longer, fewer, at.invariant.left);
+      fresh = All-tail (IsFresh c.args.config.now c.args.fsdi) _ _ (subst (All (IsFresh c.args.config.now c.args.fsdi)) split at.invariant.fresh);
+      count = omega (arith, longer, at.invariant.count);
+      ok = λ w h. at.invariant.ok w (whole_purchase c.args.config.now c.args.fsdi c.args.lane at.txn _ _ _ split _ _ _ c.in-Ok.ensures.ok h);
+      err = λ w h. at.invariant.err w (part_purchase c.args.config.now c.args.fsdi c.args.lane at.txn _ _ _ split _ _ _ c.in-Ok.ensures.ok h);
+      told = c.in-Ok.ensures.told ∙ at.invariant.told;
+      later = omega (arith, c.in-Ok.ensures.cause.later, at.invariant.later);
     }
 
 pub returns-clause-ok : goal.returns-clause-ok
 returns-clause-ok g c =
-    let none : c.each.purchases.items ≡ [] = empty_rest _ (c.in_default.ensures.items ∙ c.in_default.ensures.rest) in
-    c.each.invariant.ok _ (whole_nothing _ _ (ap (λ items. purchases_text c.args.config.now c.args.lane c.each.txn (map opened_of items)) none))
+    let none = nothing_left _ (sym c.loop-job.invariant.left ∙ c.in-None.ensures.steps.0) in
+    c.loop-job.invariant.ok _ (no_purchase c.args.config.now c.args.fsdi c.args.lane c.loop-job.txn _ _ none)

@@ -21,7 +21,7 @@ loop-node-init c =
       contents = refl;
       count = omega arith;
       few = omega (arith, cost, count_within (entries_at bytes c.in-Ok.walk));
-      spare = spare_less 256 (entries_cost (entries_at bytes c.in-Ok.walk)) c.args.arena.now cost c.requires.spare;
+      spare = spare_less 256 (entries_cost (entries_at bytes c.in-Ok.walk)) c.args.arena.now.contents cost c.requires.spare;
       within = c.in-Ok.ensures.within;
     }
 
@@ -40,7 +40,7 @@ put_entry-requires c =
     let bytes = c.args.objects.now in
     let e = entry_in (forest_of (value_at bytes c.in-Some.node)) in
     let first = ap entries_cost (next_some bytes c.loop-node.walk c.in-Some.node c.in-Some.ensures.found) in
-    spare_less (entries_cost (entries_at bytes c.loop-node.walk)) (entry_cost e) c.loop-node.arena (omega (arith, first)) c.loop-node.invariant.spare
+    spare_less (entries_cost (entries_at bytes c.loop-node.walk)) (entry_cost e) c.loop-node.arena.contents (omega (arith, first)) c.loop-node.invariant.spare
 
 pub loop-node-smaller : goal.loop-node-smaller
 loop-node-smaller c =
@@ -57,11 +57,11 @@ loop-node-preserved c =
     next_some bytes c.loop-node.walk c.in-Some.node c.in-Some.ensures.found ∙ ap (λ (w : List Node). e ∷ entries_at bytes w) (sym c.in-Some.ensures.left) in
     let within = next_within (is_top true 0x61) c.loop-node.walk c.in-Some.node (length bytes) c.loop-node.invariant.within c.in-Some.ensures.found in
     record {
-      contents = ap (with_entries (n + 1) left) c.put_entry.ensures ∙ sym (ap (λ (es : List Entry). with_entries n es c.loop-node.arena) split) ∙ c.loop-node.invariant.contents;
+      contents = ap (with_entries (n + 1) left) c.put_entry.ensures ∙ sym (ap (λ (es : List Entry). with_entries n es c.loop-node.arena.contents) split) ∙ c.loop-node.invariant.contents;
       count = omega (arith, ap length split, c.loop-node.invariant.count);
       few = omega (arith, ap length split, c.loop-node.invariant.few);
       spare = subst (HasSpare (entries_cost left)) (sym c.put_entry.ensures)
-          (spare_entry n e (entries_cost (entries_at bytes c.loop-node.walk)) (entries_cost left) c.loop-node.arena (omega (arith, ap entries_cost split)) c.loop-node.invariant.spare);
+          (spare_entry n e (entries_cost (entries_at bytes c.loop-node.walk)) (entries_cost left) c.loop-node.arena.contents (omega (arith, ap entries_cost split)) c.loop-node.invariant.spare);
       within = subst (λ (w : List Node). AllWithin w (length bytes)) (sym c.in-Some.ensures.left) within.1;
     }
 
@@ -77,8 +77,8 @@ returns-clause-contents c =
     let bytes = c.args.objects.now in
     let same = entries_read_so c.one_reading.ensures.all bytes c.in-Ok.walk (forest_of bytes) c.in-Ok.ensures.some in
     let none = next_none bytes c.loop-node.walk c.in_default-next_of.ensures.found in
-    sym (ap (λ (es : List Entry). with_entries (c.loop-node.entries + 1) es c.loop-node.arena) none) ∙ c.loop-node.invariant.contents
-    ∙ ap (λ (es : List Entry). with_entries 1 es c.args.arena.now) same
+    sym (ap (λ (es : List Entry). with_entries (c.loop-node.entries + 1) es c.loop-node.arena.contents) none) ∙ c.loop-node.invariant.contents
+    ∙ ap (λ (es : List Entry). with_entries 1 es c.args.arena.now.contents) same
 
 pub returns-clause-cost : goal.returns-clause-cost
 returns-clause-cost c =

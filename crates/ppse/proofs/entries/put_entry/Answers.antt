@@ -8,15 +8,15 @@ use Rattle.ppse.proofs.entries.put_entry.Goals as goal
 pub put_value-requires : goal.put_value-requires
 put_value-requires c =
     let e = entry_in (forest_of c.args.objects.now) in
-    spare_less (entry_cost e) (value_cost e.name) c.args.arena.now (omega arith) c.requires
+    spare_less (entry_cost e) (value_cost e.name) c.args.arena.now.contents (omega arith) c.requires
 
 pub put_value-requires-2 : goal.put_value-requires-2
 put_value-requires-2 c =
     let e = entry_in (forest_of c.args.objects.now) in
     let n = c.args.entry in
     let label = value_cost e.label + (value_cost e.priority + (value_cost e.kernel + value_cost e.extension)) in
-    let h1 = spare_step n 0x4f e.name (entry_cost e) label c.args.arena.now c.put_value.new.arena c.put_value.ensures (omega arith) c.requires in
-    spare_less label (value_cost e.label) c.put_value.new.arena (omega arith) h1
+    let h1 = spare_step n 0x4f e.name (entry_cost e) label c.args.arena.now.contents c.put_value.new.arena.contents c.put_value.ensures (omega arith) c.requires in
+    spare_less label (value_cost e.label) c.put_value.new.arena.contents (omega arith) h1
 
 pub put_value-requires-3 : goal.put_value-requires-3
 put_value-requires-3 c =
@@ -24,9 +24,9 @@ put_value-requires-3 c =
     let n = c.args.entry in
     let label = value_cost e.label + (value_cost e.priority + (value_cost e.kernel + value_cost e.extension)) in
     let priority = value_cost e.priority + (value_cost e.kernel + value_cost e.extension) in
-    let h1 = spare_step n 0x4f e.name (entry_cost e) label c.args.arena.now c.put_value.new.arena c.put_value.ensures (omega arith) c.requires in
-    let h2 = spare_step n 0x50 e.label label priority c.put_value.new.arena c.put_value-2.new.arena c.put_value-2.ensures (omega arith) h1 in
-    spare_less priority (value_cost e.priority) c.put_value-2.new.arena (omega arith) h2
+    let h1 = spare_step n 0x4f e.name (entry_cost e) label c.args.arena.now.contents c.put_value.new.arena.contents c.put_value.ensures (omega arith) c.requires in
+    let h2 = spare_step n 0x50 e.label label priority c.put_value.new.arena.contents c.put_value-2.new.arena.contents c.put_value-2.ensures (omega arith) h1 in
+    spare_less priority (value_cost e.priority) c.put_value-2.new.arena.contents (omega arith) h2
 
 pub put_value-requires-4 : goal.put_value-requires-4
 put_value-requires-4 c =
@@ -35,10 +35,10 @@ put_value-requires-4 c =
     let label = value_cost e.label + (value_cost e.priority + (value_cost e.kernel + value_cost e.extension)) in
     let priority = value_cost e.priority + (value_cost e.kernel + value_cost e.extension) in
     let kernel = value_cost e.kernel + value_cost e.extension in
-    let h1 = spare_step n 0x4f e.name (entry_cost e) label c.args.arena.now c.put_value.new.arena c.put_value.ensures (omega arith) c.requires in
-    let h2 = spare_step n 0x50 e.label label priority c.put_value.new.arena c.put_value-2.new.arena c.put_value-2.ensures (omega arith) h1 in
-    let h3 = spare_step n 0x87 e.priority priority kernel c.put_value-2.new.arena c.put_value-3.new.arena c.put_value-3.ensures (omega arith) h2 in
-    spare_less kernel (value_cost e.kernel) c.put_value-3.new.arena (omega arith) h3
+    let h1 = spare_step n 0x4f e.name (entry_cost e) label c.args.arena.now.contents c.put_value.new.arena.contents c.put_value.ensures (omega arith) c.requires in
+    let h2 = spare_step n 0x50 e.label label priority c.put_value.new.arena.contents c.put_value-2.new.arena.contents c.put_value-2.ensures (omega arith) h1 in
+    let h3 = spare_step n 0x87 e.priority priority kernel c.put_value-2.new.arena.contents c.put_value-3.new.arena.contents c.put_value-3.ensures (omega arith) h2 in
+    spare_less kernel (value_cost e.kernel) c.put_value-3.new.arena.contents (omega arith) h3
 
 pub put_value-requires-5 : goal.put_value-requires-5
 put_value-requires-5 c =
@@ -47,7 +47,7 @@ put_value-requires-5 c =
     let label = value_cost e.label + (value_cost e.priority + (value_cost e.kernel + value_cost e.extension)) in
     let priority = value_cost e.priority + (value_cost e.kernel + value_cost e.extension) in
     let kernel = value_cost e.kernel + value_cost e.extension in
-    let h1 = spare_step n 0x4f e.name (entry_cost e) label c.args.arena.now c.put_value.new.arena c.put_value.ensures (omega arith) c.requires in
-    let h2 = spare_step n 0x50 e.label label priority c.put_value.new.arena c.put_value-2.new.arena c.put_value-2.ensures (omega arith) h1 in
-    let h3 = spare_step n 0x87 e.priority priority kernel c.put_value-2.new.arena c.put_value-3.new.arena c.put_value-3.ensures (omega arith) h2 in
-    spare_step n 0x9f2a e.kernel kernel (value_cost e.extension) c.put_value-3.new.arena c.put_value-4.new.arena c.put_value-4.ensures (omega arith) h3
+    let h1 = spare_step n 0x4f e.name (entry_cost e) label c.args.arena.now.contents c.put_value.new.arena.contents c.put_value.ensures (omega arith) c.requires in
+    let h2 = spare_step n 0x50 e.label label priority c.put_value.new.arena.contents c.put_value-2.new.arena.contents c.put_value-2.ensures (omega arith) h1 in
+    let h3 = spare_step n 0x87 e.priority priority kernel c.put_value-2.new.arena.contents c.put_value-3.new.arena.contents c.put_value-3.ensures (omega arith) h2 in
+    spare_step n 0x9f2a e.kernel kernel (value_cost e.extension) c.put_value-3.new.arena.contents c.put_value-4.new.arena.contents c.put_value-4.ensures (omega arith) h3

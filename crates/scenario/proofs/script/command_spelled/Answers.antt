@@ -1,4 +1,4 @@
-use Rattle.std.proofs.Common.{◌≡◌, sym, ◌∙◌}
+use Rattle.std.proofs.Common.{sym, ◌∙◌}
 use Rattle.scenario.proofs.Commands.{no_command}
 use Rattle.scenario.proofs.script.command_spelled.Goals as goal
 

@@ -1,0 +1,5 @@
+pub mod Lanes
+pub mod Probing
+pub mod Saying
+pub mod Turns
+pub mod Upcoming

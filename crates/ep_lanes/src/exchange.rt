@@ -1,0 +1,24 @@
+//! What a turn made, and what it led to.
+
+use entry_session::End;
+use rf_frame::{Ask, Heard};
+
+/// What follows in a lane.
+#[derive(Clone, Copy, Debug, PartialEq, Eq)]
+pub enum Turned {
+    /// Its transaction asks for another exchange.
+    Goes,
+    /// Its transaction ended so.
+    Ended(End),
+}
+
+/// An exchange of a lane.
+#[derive(Drop)]
+pub struct Exchange {
+    /// The lane's number, from 1.
+    pub lane: u8,
+    /// What was asked.
+    pub ask: Ask,
+    /// What the reader heard: what the probe gave on.
+    pub heard: Heard,
+}

@@ -1,0 +1,296 @@
+//! Two lanes over two fields, a probe that gives silence, and a medium that fails.
+ghost use Rattle.std.specs.Prelude.{◌≡◌, ◌≤◌, All, IfOk, length, vec_len};
+ghost use Rattle.ep_base.specs.Configuration.{IsCombination};
+ghost use Rattle.ep_lanes.specs.Lanes.{has_open, is_live, lanes_of};
+ghost use Rattle.rf_field.specs.Plans.{PlanFits};
+
+use crate::holding::Lanes;
+use crate::{Ask, End, EventList, Heard, Medium, Open, Probe, RfFailed, Turned};
+use acquirer_config::{Combination, Config};
+use arrayvec::ArrayVec;
+use card_image::CardImage;
+use ep_base::{Buf, FrameBuf, Wave};
+use kernel_port::{Kernels, Scripts};
+use pre_processing::{Prepared, prepare};
+use rf_field::{APlan, CardPlan, Field};
+use std::alloc::Global;
+use std::process::Abort;
+use std::test::Fail;
+
+// What the reader sends in a purchase with a card that has no directory, frame by frame.
+const SENT: [&[u8]; 9] = [
+    b"\x52",
+    b"\x50\x00\x57\xcd",
+    b"\x05\x00\x08\x39\x73",
+    b"\x52",
+    b"\x93\x20",
+    b"\x93\x70\x01\x02\x03\x04\x04\x8e\x25",
+    b"\xe0\x80\x31\x73",
+    b"\x02\x00\xa4\x04\x00\x0e2PAY.SYS.DDF01\x00\xe0\x42",
+    b"\xc2\xe0\xb4",
+];
+
+fn combination() -> Combination
+    ensures { IsCombination result }
+{
+    Combination {
+        txn_type: 0,
+        aid: ArrayVec::try_from(b"\xa0\x00\x00\x00\x03\x10\x10".as_slice()).unwrap(),
+        kernel: 3,
+        status_check: false,
+        zero_allowed: None,
+        limit: None,
+        floor: None,
+        terminal_floor: None,
+        cvm: None,
+        extended: false,
+        ttq: None,
+    }
+}
+
+fn purchase(alloc: Global) -> Result<Prepared, Fail> {
+    let mut list = Vec::new(alloc);
+    list.push(combination())?;
+    Ok(prepare(&Config::of_list(2, list), 0, 1000))
+}
+
+fn plan(image: CardImage) -> CardPlan
+    ensures { PlanFits result }
+{
+    let plan = APlan {
+        uid: ArrayVec::try_from(b"\x01\x02\x03\x04".as_slice()).unwrap(),
+        sak: 0x20,
+        fsci: 8,
+        fwi: 4,
+        historical: Buf::<15>::new(),
+    };
+    CardPlan::A(plan, image)
+}
+
+// A card without a directory, alone in a field.
+fn field(alloc: Global) -> Result<Field, Fail> {
+    let Ok(image) = CardImage::open(alloc, 1, Vec::new(alloc), Vec::new(alloc)) else {
+        return Err("memory".into());
+    };
+    let mut cards = Vec::new(alloc);
+    cards.push(plan(image))?;
+    let Ok(field) = Field::open(alloc, cards, Vec::new(alloc), Vec::new(alloc), 60) else {
+        return Err("memory".into());
+    };
+    Ok(field)
+}
+
+// Whether a transaction is open in a lane.
+fn is_open<K: Kernels>(lanes: &Lanes<K>, lane: u8) -> bool
+    ensures { result ≡ has_open (lanes_of K.state K.is_open K.is_fresh lanes.now) lane }
+{
+    if lane == 0 {
+        return false;
+    }
+    match lanes.lanes.get(usize::from(lane) - 1) {
+        Some(held) => held.ask.is_some(),
+        None => false,
+    }
+}
+
+// Two lanes with the turn list 1, 1, 2, 1, each with the purchase open.
+fn two_lanes(rt: &(impl Abort + AllocGlobal)) -> Result<Lanes<Scripts>, Fail> {
+    let turns = vec![in rt.alloc(); 1, 1, 2, 1]?;
+    let Ok(mut lanes) = Lanes::open(rt.alloc(), 2, turns) else {
+        return Err("memory".into());
+    };
+    let prepared = purchase(rt.alloc())?;
+    for lane in [1, 2] {
+        let mut events = EventList::new();
+        let kernels = Scripts::of(Vec::new(rt.alloc()));
+        assert!(rt; lanes.is_live(lane));
+        assert!(rt; !is_open(&lanes, lane));
+        assert_eq!(rt;
+            lanes.begin(lane, &prepared, kernels, 8, &mut events),
+            Turned::Goes
+        );
+        assert_eq!(rt; events.len(), 3);
+    }
+    assert!(rt; lanes.last().is_none());
+    Ok(lanes)
+}
+
+// A run: the lane of each exchange, how many of them sent what the purchase sends then, how many events they added, and how
+// each lane's transaction ended.
+#[derive(Drop)]
+struct Course {
+    order: ArrayVec<u8, 40>,
+    usual: u32,
+    events: usize,
+    ends: (Option<End>, Option<End>),
+}
+
+impl Course {
+    // Takes what a turn made of a lane.
+    fn take(&mut self, lane: u8, turned: Turned, events: &EventList) {
+        let _full = self.order.try_push(lane);
+        self.events = self.events.saturating_add(events.len());
+        if let Turned::Ended(end) = turned {
+            if lane == 1 {
+                self.ends.0 = Some(end);
+            } else {
+                self.ends.1 = Some(end);
+            }
+        }
+    }
+
+    // Counts an exchange that sends what the purchase sends then.
+    fn compare(&mut self, lane: u8, ask: &Ask) {
+        let made = self.order.iter().filter(|taken| **taken == lane).count();
+        if made < SENT.len() && ask.frame.as_slice() == SENT[made] {
+            self.usual = self.usual.saturating_add(1);
+        }
+    }
+}
+
+// Runs both lanes to their ends, each over a field of its own.
+fn run<P: Probe>(
+    rt: &(impl Abort + AllocGlobal),
+    lanes: &mut Lanes<Scripts>,
+    probe: &mut P,
+) -> Result<Course, Fail> {
+    let mut first = field(rt.alloc())?;
+    let mut second = field(rt.alloc())?;
+    let mut course = Course {
+        order: ArrayVec::new(),
+        usual: 0,
+        events: 0,
+        ends: (None, None),
+    };
+    for _ in 0..40 {
+        let Some(lane) = lanes.next() else {
+            break;
+        };
+        assert!(rt; is_open(lanes, lane));
+        let mut events = EventList::new();
+        let turned = if lane == 1 {
+            lanes.turn(lane, &mut first, probe, &mut events).ok()
+        } else {
+            lanes.turn(lane, &mut second, probe, &mut events).ok()
+        };
+        let turned = turned.ok_or("a fault")?;
+        let made = lanes.last().ok_or("no exchange")?;
+        assert_eq!(rt; made.lane, lane);
+        course.compare(lane, &made.ask);
+        course.take(lane, turned, &events);
+        if turned != Turned::Goes {
+            assert!(rt; !is_open(lanes, lane));
+            lanes.finish(lane);
+        }
+    }
+    Ok(course)
+}
+
+#[test]
+fn two_lanes_take_turns(rt: HostRuntime) -> Result<(), Fail> {
+    let mut lanes = two_lanes(&rt)?;
+    let course = run(&rt, &mut lanes, &mut Open)?;
+    assert_eq!(rt;
+        course.order.as_slice(),
+        [1, 1, 2, 1, 1, 2, 1, 2, 1, 2, 1, 2, 1, 2, 1, 2, 2, 2].as_slice()
+    );
+    assert_eq!(rt; (course.usual, course.events), (18, 12));
+    assert_eq!(rt; course.ends, (Some(End::Done), Some(End::Done)));
+    assert_eq!(rt; lanes.next(), None);
+    Ok(())
+}
+
+// A probe that counts its hearings, and gives silence at three of them.
+#[derive(Drop)]
+struct Deaf {
+    hearings: u32,
+}
+
+impl Probe for Deaf {
+    ghost use Rattle.ep_lanes.specs.Probing.{untold};
+
+    ghost State = { Unit {0} };
+
+    ghost state = { λ _. tt };
+
+    ghost steps = { untold };
+
+    fn hear(&mut self, _lane: u8, _ask: &Ask, heard: &Heard) -> Heard {
+        self.hearings = self.hearings.saturating_add(1);
+        match self.hearings {
+            13 | 15 | 17 => Heard::Silence,
+            _ => heard.copy(),
+        }
+    }
+}
+
+#[test]
+fn a_probe_breaks_a_link(rt: HostRuntime) -> Result<(), Fail> {
+    let mut lanes = two_lanes(&rt)?;
+    let mut deaf = Deaf { hearings: 0 };
+    let course = run(&rt, &mut lanes, &mut deaf)?;
+    assert_eq!(rt; deaf.hearings, 19);
+    assert_eq!(rt; (course.order.len(), course.events), (19, 8));
+    assert_eq!(rt; course.ends, (Some(End::Link), Some(End::Done)));
+    Ok(())
+}
+
+// A medium that fails at every call.
+#[derive(Drop)]
+struct Broken {
+    faults: u64,
+}
+
+impl Medium for Broken {
+    ghost use Rattle.ep_base.specs.Medium.{untold};
+
+    ghost State = { Unit {0} };
+
+    ghost state = { λ _. tt };
+
+    ghost steps = { untold };
+
+    ghost faults = { λ m. m.faults };
+
+    fn reset(&mut self) -> Result<(), RfFailed> {
+        self.faults = self.faults.saturating_add(1);
+        Err(RfFailed)
+    }
+
+    fn send(&mut self, _wave: Wave, _frame: &FrameBuf, _wait: u32) -> Result<Heard, RfFailed> {
+        self.faults = self.faults.saturating_add(1);
+        Err(RfFailed)
+    }
+}
+
+#[test]
+fn a_medium_fails(rt: HostRuntime) -> Result<(), Fail> {
+    let mut lanes = two_lanes(&rt)?;
+    let mut field = field(rt.alloc())?;
+    let mut events = EventList::new();
+    assert_eq!(rt; lanes.next(), Some(1));
+    assert!(rt; is_open(&lanes, 1));
+    assert_eq!(rt;
+        lanes.turn(1, &mut field, &mut Open, &mut events),
+        Ok(Turned::Goes)
+    );
+    assert!(rt; lanes.last().is_some());
+    let mut broken = Broken { faults: 0 };
+    assert_eq!(rt; lanes.next(), Some(1));
+    assert!(rt; is_open(&lanes, 1));
+    assert!(rt; events.is_empty());
+    assert_eq!(rt;
+        lanes.turn(1, &mut broken, &mut Open, &mut events),
+        Err(RfFailed)
+    );
+    assert!(rt; lanes.last().is_none());
+    assert_eq!(rt; lanes.next(), Some(2));
+    assert!(rt; is_open(&lanes, 2));
+    assert!(rt; events.is_empty());
+    assert_eq!(rt;
+        lanes.turn(2, &mut field, &mut Open, &mut events),
+        Ok(Turned::Goes)
+    );
+    assert_eq!(rt; lanes.next(), Some(2));
+    Ok(())
+}

@@ -1,0 +1,5 @@
+pub mod CardLimits
+pub mod Choices
+pub mod Lanes
+pub mod Purchases
+pub mod Settings

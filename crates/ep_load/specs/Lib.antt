@@ -1,0 +1,7 @@
+pub mod Cards
+pub mod Draws
+pub mod Fates
+pub mod Load
+pub mod Responses
+pub mod Scripts
+pub mod Terms

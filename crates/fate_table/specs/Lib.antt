@@ -1,0 +1,4 @@
+pub mod Fates
+pub mod Forms
+pub mod Presence
+pub mod Tokens

@@ -1,0 +1,10 @@
+pub mod Apart
+pub mod Bounding
+pub mod Counting
+pub mod Ending
+pub mod Keeping
+pub mod Ordering
+pub mod Owning
+pub mod Stepping
+pub mod Telling
+pub mod Writing

@@ -1,0 +1,10 @@
+pub mod Apart
+pub mod Counting
+pub mod Ending
+pub mod Keeping
+pub mod LaneText
+pub mod Order
+pub mod Pieces
+pub mod Telling
+pub mod Turning
+pub mod WholeRun

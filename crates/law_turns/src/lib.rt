@@ -1,0 +1,91 @@
+//! Laws of a run of several lanes, exchange by exchange, each the contract of a function that does nothing.
+//!
+//! `specs/` states the order of the exchanges, what each lane writes with each of its own, the run, and the laws.
+#![tactic(auto)]
+
+ghost use Rattle.ep_base.specs.Kernel.{KernelSteps};
+ghost use Rattle.law_turns.specs.Apart.{LanesApart, OthersStay};
+ghost use Rattle.law_turns.specs.Counting.{EveryExchangeCounts, TransactionsAreBounded};
+ghost use Rattle.law_turns.specs.Ending.{OneEnd, RunsEnd, RunsEndWithin};
+ghost use Rattle.law_turns.specs.Keeping.{ToldKeep};
+ghost use Rattle.law_turns.specs.Pieces.{PiecesAreText};
+ghost use Rattle.law_turns.specs.Telling.{KeepsInRun, RunsTell, TellsReport};
+ghost use Rattle.law_turns.specs.Turning.{TurnsAreLive};
+ghost use Rattle.law_turns.specs.WholeRun.{ProbeSteps};
+
+/// A turn is that of a lane that has an exchange left, one of those that are numbered from 1 on; and it is no one's only
+/// where none of these lanes has one left.
+///
+/// The turn list names these lanes alone.
+pub fn turns_are_live()
+    ensures { TurnsAreLive }
+{}
+
+/// The pieces of a run, each with the lane that wrote it, are its text in the order in which they were written, whatever
+/// the probe makes of the hearings. P has the states of the probe.
+pub fn pieces_are_text<P>()
+    ensures { (probe : ProbeSteps P) → PiecesAreText probe }
+{}
+
+/// With the probe that gives on what it gets, and whatever the order of the exchanges, each lane of a run is after some
+/// count of exchanges of one of its transactions, as this one is alone over its own field; those before it are over; and
+/// its pieces tell those, and of this one what it told so far. A lane without an exchange left told all its transactions.
+pub fn keeps_in_run()
+    ensures { KeepsInRun }
+{}
+
+/// Once no lane has an exchange left, the pieces of each lane tell all of its transactions, each of them over.
+pub fn runs_tell()
+    ensures { RunsTell }
+{}
+
+/// What tells a lane's transactions, each of them over, tells of transactions that keep to the perfect run over their cards,
+/// for the ends of their rounds: as `lanes_keep` of `law_lane` says.
+///
+/// Each is over a new field of a document's cards, which its log carries, and closes the presentation of a found card alone.
+pub fn told_keep()
+    ensures { ToldKeep }
+{}
+
+/// Where no trace is wanted, the text that tells a lane's transactions is the report of their events and their logs.
+pub fn tells_report()
+    ensures { TellsReport }
+{}
+
+/// Whatever is heard, a transaction is over after the exchanges of its bounds: 5,859 for each command, and 705 for each
+/// Start B, the closing of its presentation among them.
+///
+/// It sends commands alone, to a card that was found and not closed, and polls 64 rounds at most in each Start B.
+pub fn every_exchange_counts()
+    ensures { EveryExchangeCounts }
+{}
+
+/// The transaction of Entry Point, with kernels whose counts fall and which send commands alone, is bounded so. S has the
+/// states of the kernels.
+pub fn transactions_are_bounded<S>()
+    ensures { (k : KernelSteps S) → TransactionsAreBounded k }
+{}
+
+/// A run of several lanes comes to its end, whatever the order of the exchanges and whatever the probe makes of the
+/// hearings: after the exchanges of all its transactions together at most. Once it is over it stays so, and it is the same
+/// at every count of exchanges at which it is over. P has the states of the probe.
+///
+/// Each transaction is over after its count of exchanges, whatever is heard, as `every_exchange_counts` says of bounded ones.
+pub fn runs_end<P>()
+    ensures within { (probe : ProbeSteps P) → RunsEndWithin probe }
+    ensures comes { (probe : ProbeSteps P) → RunsEnd probe }
+    ensures once { (probe : ProbeSteps P) → OneEnd probe }
+{}
+
+/// With the probe that gives on what it gets, and for every turn list, the pieces of a lane are, one after another, the
+/// text of a run that has this lane alone under its own number and no turn list; and where the run of all lanes is over,
+/// that run is over too.
+pub fn lanes_apart()
+    ensures { LanesApart }
+{}
+
+/// A turn is of one lane, whatever the probe makes of its hearing: all other lanes, with their transactions and their
+/// fields, stay as they were. P has the states of the probe.
+pub fn others_stay<P>()
+    ensures { (probe : ProbeSteps P) → OthersStay probe }
+{}

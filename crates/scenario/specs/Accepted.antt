@@ -1,0 +1,34 @@
+-- What holds of a document that is accepted (this project's profile).
+use Rattle.std.specs.Prelude.{◌≤◌, All, List, length}
+use Rattle.ep_base.specs.Air.{ArePassages}
+use Rattle.ep_base.specs.Configuration.{AreSettings}
+use Rattle.law_round.specs.Lawful.{ArePlaced, AreApart, names}
+use Rattle.law_radio.specs.OverRadio.{AreDistinct, numbers}
+use Rattle.card_table.specs.Placing.{placed_from}
+use Rattle.fate_table.specs.Presence.{ArePresences}
+use Rattle.scenario.specs.Plan.{Transaction, Plan}
+use Rattle.scenario.specs.Scripts.{AreScripts}
+
+-- A transaction: its cards are within their limits, no two of one kind have the same identifier, and each has a number of its own; presence names no
+-- other cards; bursts have at most sixteen bits; and its scripts are within their limits (this project's profile).
+pub record IsLawful (t : Transaction) : Type 0 where
+  pub placed : ArePlaced (placed_from 1 t.cards)
+  pub apart : AreApart (names (placed_from 1 t.cards))
+  pub distinct : AreDistinct (numbers (placed_from 1 t.cards))
+  pub presence : ArePresences (length t.cards) t.presence
+  pub fates : ArePassages t.fates
+  pub scripts : AreScripts t.scripts
+
+-- A lane: 1 to 64 transactions (this project's profile).
+pub record IsLane (lane : List Transaction) : Type 0 where
+  pub some : 1 ≤ length lane
+  pub short : length lane ≤ 64
+  pub lawful : All IsLawful lane
+
+-- A document: the limits of its configuration, 1 to 8 lanes, and a frame size code of at most 8 (this project's profile).
+pub record IsAccepted (p : Plan) : Type 0 where
+  pub config : AreSettings p.config
+  pub fsdi : p.fsdi ≤ 8
+  pub some : 1 ≤ length p.lanes
+  pub few : length p.lanes ≤ 8
+  pub lanes : All IsLane p.lanes

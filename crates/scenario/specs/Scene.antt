@@ -1,0 +1,38 @@
+-- The fields and kernels that a document's transactions begin with (this project's own).
+use Rattle.std.specs.Prelude.{ℕ, ◌+◌, List, length, map, None}
+use Rattle.ep_base.specs.Configuration.{Settings, count_of}
+use Rattle.ep_base.specs.Field.{Field, new_field}
+use Rattle.ep_base.specs.Kernel.{Scripted, steps_left}
+use Rattle.law_run.specs.Bounds.{log_bound}
+use Rattle.card_table.specs.Placing.{placed_from}
+use Rattle.scenario.specs.Plan.{Transaction, Plan}
+
+-- A transaction that is about to begin: its field, and its kernels (this project's own).
+pub record Work : Type 0 where
+  pub txn_type : ℕ
+  pub amount : ℕ
+  pub field : Field
+  pub scripts : Scripted
+
+-- The configuration, the reader's frame size code, and the transactions of each lane that are about to begin (this project's own).
+pub record Scene : Type 0 where
+  pub config : Settings
+  pub fsdi : ℕ
+  pub lanes : List (List Work)
+
+-- How many records a transaction's log has room for: one more than the most commands that it sends (this project's own).
+abbrev pub room_of : Settings → Transaction → ℕ
+room_of settings t = log_bound (length t.scripts) (count_of t.txn_type settings.list) (steps_left t.scripts) + 1
+
+-- A transaction before its first Start B: no round was begun and nothing was executed (this project's own).
+abbrev pub work_of : Settings → Transaction → Work
+work_of settings t = record {
+  txn_type = t.txn_type;
+  amount = t.amount;
+  field = new_field (placed_from 1 t.cards) t.presence t.fates (room_of settings t);
+  scripts = record { scripts = t.scripts; running = None };
+}
+
+-- All transactions of a document (this project's own).
+abbrev pub scene_of : Plan → Scene
+scene_of p = record { config = p.config; fsdi = p.fsdi; lanes = map (λ lane. map (work_of p.config) lane) p.lanes }

@@ -1,0 +1,9 @@
+pub mod Ends
+pub mod Offers
+pub mod Opening
+pub mod Room
+pub mod Rounds
+pub mod Shown
+pub mod Stands
+pub mod Told
+pub mod Wishes

@@ -1,0 +1,23 @@
+//! A transaction of Entry Point between two exchanges: what it asks, and how it goes on after what is heard (EMV Book B,
+//! ISO/IEC 14443-4, with this project's profile).
+#![tactic(auto)]
+
+mod answering;
+mod closing;
+mod directory;
+mod events;
+mod hearing;
+mod linking;
+mod offers;
+mod opening;
+mod polling;
+mod running;
+mod selecting;
+mod steps;
+
+pub use directory::count_of;
+pub use hearing::hear;
+pub use offers::{activation_of, answered, current, is_success};
+pub use opening::begin;
+pub use polling::PPSE_NAME;
+pub use steps::{Desk, Onward, Purpose, Round, Step, Wish};

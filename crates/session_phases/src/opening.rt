@@ -1,0 +1,91 @@
+//! The begin of a transaction, up to its first exchange or its end.
+ghost use Rattle.std.specs.Prelude.{◌≡◌, ℕ, ◌+◌, ◌<◌, ◌≤◌, List, [], ◌++◌, true, length, None, if◌then◌else◌};
+ghost use Rattle.arrayvec.specs.ArrayVec.{array_vec_len};
+ghost use Rattle.ep_base.specs.EntryPoint.{say_ready, transaction};
+ghost use Rattle.ep_base.specs.Said.{Said, Finished};
+ghost use Rattle.ep_base.specs.Talk.{Talk, Result, Over};
+ghost use Rattle.law_lane.specs.Standing.{started};
+ghost use Rattle.session_phases.specs.Opening.{opens};
+ghost use Rattle.poll_activate.specs.Meaning.{ends_of};
+ghost use Rattle.session_phases.specs.Shown.{FitsThen};
+ghost use Rattle.session_phases.specs.Stands.{Turned, goes_on, link_held};
+ghost use Rattle.session_phases.specs.Told.{Comes, told_by};
+
+use crate::closing::{finish, start_b};
+use crate::events::note;
+use crate::steps::{Desk, Onward};
+use kernel_port::{Kernels, Message, OutcomeKind};
+use pre_processing::{Prepared, PreparedOne};
+use session_event::{End, Event, EventList};
+
+/// Notes what Pre-Processing found of each Combination.
+fn note_list(ones: &[PreparedOne], events: &mut EventList)
+    requires few { length ones.now ≤ 16 }
+    requires events { array_vec_len events.old + length ones.now ≤ 24 }
+    ensures goes { (talk : Talk) (results : List Result) (before : List Said) (next : Talk)
+        → Comes talk results (before ++ told_by events.old.items) (say_ready 1 ones.now next)
+        → Comes talk results (before ++ told_by events.new.items) next }
+    ensures count { array_vec_len events.new ≡ array_vec_len events.old + length ones.now }
+{
+    let mut number: u8 = 1;
+    let mut rest = ones;
+    'each: while let Some((one, others)) = rest.split_first() {
+        let event = Event::Pre {
+            number,
+            one: one.copy(),
+        };
+        note(events, event);
+        number += 1;
+        rest = others;
+    }
+}
+
+/// Notes all up to the first Start B, or up to the end where there is none, and says whether there is one.
+fn open(prepared: &Prepared, events: &mut EventList) -> bool
+    requires { array_vec_len events.old + 19 ≤ 24 }
+    ensures goes { (talk : Talk) (results : List Result) (before : List Said) (next : Talk)
+        → Comes talk results (before ++ told_by events.old.items) (opens prepared.now.txn_type prepared.now.amount prepared.now.list next)
+        → Comes talk results (before ++ told_by events.new.items) (if result then next else Over Finished) }
+    ensures count { array_vec_len events.new ≤ array_vec_len events.old + 19 }
+{
+    let start = Event::Start {
+        txn_type: prepared.txn_type(),
+        amount: prepared.amount(),
+    };
+    note(events, start);
+    note_list(prepared.list(), events);
+    if prepared.any_allowed() {
+        note(events, Event::Message(Message::PresentCard));
+        return true;
+    }
+    note(events, Event::Outcome(OutcomeKind::TryAnother));
+    note(events, Event::Message(Message::InsertOrSwipe));
+    false
+}
+
+/// Begins a transaction after Pre-Processing: its first exchange, or its end where no Combination is allowed. Nothing is
+/// left of the last one's link and rounds.
+pub fn begin<K: Kernels>(
+    prepared: &Prepared,
+    kernels: &K,
+    fsdi: u8,
+    desk: &mut Desk,
+    events: &mut EventList,
+) -> Onward
+    requires code { fsdi < 16 }
+    requires empty { array_vec_len events.old ≡ 0 }
+    ensures turned { let talk = transaction K.steps prepared.now.txn_type prepared.now.amount prepared.now.list (K.state kernels.now) in
+        Turned K.steps prepared.now.list (K.state kernels.now) desk.new.arena.objects fsdi (link_held desk.new.link) result talk (started talk) (told_by events.new.items) }
+    ensures goes_on { goes_on (K.is_open kernels.now) (K.is_fresh kernels.now) (link_held desk.new.link) result ≡ true }
+    ensures arena { desk.new.arena ≡ desk.old.arena }
+    ensures rounds { desk.new.rounds.items ≡ [] }
+    ensures fits { FitsThen result (ends_of desk.new.rounds.items) }
+    ensures link { desk.new.link ≡ None }
+{
+    desk.link = None;
+    desk.rounds.clear();
+    if open(prepared, events) {
+        return start_b(fsdi, &mut desk.rounds);
+    }
+    finish(End::Done, events)
+}
