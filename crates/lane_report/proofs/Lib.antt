@@ -1,1 +1,7 @@
 pub mod Appending
+pub mod Few
+pub mod Numbering
+pub mod Opened
+pub mod Reporting
+pub mod Running
+pub mod Texts
