@@ -1,9 +1,36 @@
-use Rattle.std.proofs.Common.{rules, arith, ◌<◌, ◌≤◌, ◌∙◌, length}
+use Rattle.std.proofs.Common.{rules, arith, ◌<◌, ◌≤◌, ◌∙◌, length, refl, ap, is_some}
 use Rattle.lane_report.specs.Shows.{held_of}
 use Rattle.lane_report.proofs.Appending.{whole_next, part_next, part_front}
-use Rattle.lane_report.proofs.Opened.{opening_next, next_text, text_none, all_fit, all_shown}
+use Rattle.lane_report.proofs.Opened.{opening_first, next_new, next_is_new, next_text, opening_next, text_none, all_fit, all_shown}
 use Rattle.lane_report.proofs.Texts.{whole_nothing, written_with}
 use Rattle.lane_report.proofs.run.open_lanes.Goals as goal
+
+pub loop-work-init : goal.loop-work-init
+loop-work-init g c = record {
+  number = refl;
+  opening = opening_first c.args.config.now c.args.fsdi (held_of c.args.lanes.now) c.args.works.now _ c.requires.new;
+  ok = λ w h. h;
+  err = λ w h. h;
+  told = refl;
+  later = omega arith;
+}
+
+pub begin_next-requires : goal.begin_next-requires
+begin_next-requires g c =
+    let at = c.loop-work in
+    let less : at.work-index < length c.args.works.now = omega (arith, c.loop-work-test.true, at.invariant.opening.size) in
+    let new =
+    next_new c.args.config.now c.args.fsdi (held_of c.args.lanes.now) c.args.works.now _ c.requires.new c.requires.works at.work-index at.lane
+    at.invariant.number less (held_of at.lanes) at.works at.invariant.opening in
+    let first =
+    next_is_new c.args.config.now c.args.fsdi (held_of c.args.lanes.now) c.args.works.now _ c.requires.new c.requires.works at.work-index at.lane
+    at.invariant.number less (held_of at.lanes) at.works at.invariant.opening c.work-item.result in
+    record {
+      code = c.requires.code;
+      live = ap (λ l. l.live) new;
+      closed = ap (λ l. is_some l.transaction) new;
+      none = first.none;
+    }
 
 pub returns-in-Err-clause-err : goal.returns-in-Err-clause-err
 returns-in-Err-clause-err g c =
