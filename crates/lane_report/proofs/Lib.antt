@@ -1,4 +1,5 @@
 pub mod Appending
+pub mod Beginning
 pub mod Few
 pub mod Numbering
 pub mod Opened
