@@ -1,2 +1,4 @@
 pub mod Appending
 pub mod Beginning
+pub mod Closing
+pub mod Hearing
