@@ -2,5 +2,5 @@ pub mod Appending
 pub mod Beginning
 pub mod Closing
 pub mod Hearing
-pub mod Numbering
-pub mod Running
+pub mod Places
+pub mod Steps

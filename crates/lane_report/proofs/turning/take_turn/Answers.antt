@@ -4,8 +4,8 @@ use Rattle.std.proofs.lemmas.Result.{on_ok_weaker}
 use Rattle.lane_report.specs.Shows.{held_of}
 use Rattle.lane_report.specs.Works.{LaneWork}
 use Rattle.lane_report.proofs.Closing.{on_err_weaker}
-use Rattle.lane_report.proofs.Numbering.{found, changed, others}
-use Rattle.lane_report.proofs.Running.{next_live, next_there, turn_taken, turn_cut, fits_after}
+use Rattle.lane_report.proofs.Places.{found, changed, others}
+use Rattle.lane_report.proofs.Steps.{next_live, next_there, turn_taken, turn_cut, fits_after}
 use Rattle.lane_report.proofs.turning.take_turn.Goals as goal
 
 pub overflow_sub-work : goal.overflow_sub-work
