@@ -5,6 +5,8 @@ pub mod Few
 pub mod Hearing
 pub mod Numbering
 pub mod Opened
+pub mod Places
 pub mod Reporting
 pub mod Running
+pub mod Steps
 pub mod Texts
