@@ -1,0 +1,7 @@
+pub mod Begun
+pub mod Made
+pub mod Reports
+pub mod Shows
+pub mod Turned
+pub mod Works
+pub mod Written
