@@ -195,7 +195,5 @@ pub(crate) fn take_turn<K: Sink, P: Probe>(
     ensures length { length works.new ≡ length works.old }
 {
     let work = &mut works[usize::from(lane) - 1];
-    turn_lane(
-        lane, lanes, config, fsdi, traced, work, output, probe,
-    )
+    turn_lane(lane, lanes, config, fsdi, traced, work, output, probe)
 }
