@@ -1,45 +1,36 @@
--- What the lanes have to do, by their numbers, where that of one changes.
-use Rattle.std.proofs.Common.{◌≡◌, ◌≢◌, ⊎_elim, ℕ, zero, suc, ◌+◌, ◌-◌, ◌<◌, ◌≤◌, ◌==◌, Bool, List, [], ◌∷◌, length, map, get_or, slice_get, slice_set, unwrap_or, sym, ◌∙◌, ap, subst, refl, arith}
+-- What the lanes have to do, by the places of a list, and the transactions of a lane with a number.
+use Rattle.std.proofs.Common.{◌≡◌, ◌≢◌, ⊎_elim, ℕ, zero, suc, ◌+◌, ◌-◌, ◌<◌, ◌≤◌, List, [], ◌∷◌, length, get_or, slice_set, sym, ◌∙◌, ap, subst, refl, arith}
 use Rattle.std.specs.Prelude.{if◌then◌else◌}
 use Rattle.std.proofs.lemmas.Bool.Decides.{eqb_tells}
-use Rattle.std.proofs.lemmas.List.{get_or-set_same, get_or-set_other, get_or_past}
-use Rattle.std.proofs.lemmas.Option.{unwrap_or-slice_get}
+use Rattle.std.proofs.lemmas.List.{get_or_past}
+use Rattle.std.proofs.lemmas.Option.{slice_get-get_or, get_or_from_slice_get}
 use Rattle.ep_base.specs.Configuration.{Settings}
-use Rattle.law_turns.specs.LaneText.{Job}
 use Rattle.law_turns.specs.Telling as runs
 use Rattle.law_turns.proofs.Stepping.{choose}
 use Rattle.lane_report.specs.Works.{LaneWork, no_work, work_of, jobs_of, all_jobs}
-
-abbrev by_zero : Bool → List LaneWork → ℕ → LaneWork
-by_zero b works n = if b then no_work else unwrap_or (slice_get works (n - 1)) no_work
-
--- a number from 1 on is a place
-pub work_placed : (works : List LaneWork) (n : ℕ) → 1 ≤ n → work_of works n ≡ get_or works (n - 1) no_work
-work_placed works n least =
-    ⊎_elim (λ x. absurd (omega (arith, x.1)))
-    (λ x. subst (λ (b : Bool). by_zero b works n ≡ get_or works (n - 1) no_work) (sym x.0) (unwrap_or-slice_get works (n - 1) no_work))
-    (eqb_tells n 0)
-
-pub work_none : (works : List LaneWork) (n : ℕ) → n ≡ 0 → work_of works n ≡ no_work
-work_none works n e = subst (λ k. work_of works k ≡ no_work) (sym e) refl
+use Rattle.lane_report.proofs.Places.{placed, none_at, changed, others}
 
 pub work_past : (works : List LaneWork) (n : ℕ) → length works < n → work_of works n ≡ no_work
-work_past works n less = work_placed works n (omega (arith, less)) ∙ get_or_past works (n - 1) no_work (omega (arith, less))
+work_past works n less = placed works n (omega (arith, less)) ∙ get_or_past works (n - 1) no_work (omega (arith, less))
+
+-- the element of a list is what the lane with its number has to do
+pub item_is : (works : List LaneWork) (i n : ℕ) (d : LaneWork) → n ≡ i + 1 → i < length works → work_of works n ≡ get_or works i d
+item_is works i n d e less =
+    let at : n - 1 ≡ i = omega (arith, e) in
+    placed works n (omega (arith, e))
+    ∙ (ap (λ k. get_or works k no_work) at ∙ get_or_from_slice_get works i (get_or works i d) no_work (slice_get-get_or works i d less))
 
 -- the one that changes, and all others
 pub work_here : (works : List LaneWork) (i n : ℕ) (w : LaneWork) → n ≡ i + 1 → i < length works → work_of (slice_set works i w) n ≡ w
 work_here works i n w e less =
     let at : n - 1 ≡ i = omega (arith, e) in
-    work_placed (slice_set works i w) n (omega (arith, e))
-    ∙ (ap (λ k. get_or (slice_set works i w) k no_work) at ∙ get_or-set_same works i w no_work less)
+    subst (λ k. work_of (slice_set works k w) n ≡ w) at (changed works n n refl (omega (arith, e), omega (arith, e, less)) w)
 
-pub work_elsewhere : (works : List LaneWork) (i n : ℕ) (w : LaneWork) → n ≢ i + 1 → work_of (slice_set works i w) n ≡ work_of works n
-work_elsewhere works i n w other =
-    ⊎_elim (λ x. work_none (slice_set works i w) n x.1 ∙ sym (work_none works n x.1))
-    (λ x. let least : 1 ≤ n = omega (arith, x.1) in
-    work_placed (slice_set works i w) n least
-    ∙ (get_or-set_other works i (n - 1) w no_work (λ e. other (omega (arith, e, least))) ∙ sym (work_placed works n least)))
-    (eqb_tells n 0)
+pub work_elsewhere : (works : List LaneWork) (i n k : ℕ) (w : LaneWork) → n ≡ i + 1 → i < length works → k ≢ n
+    → work_of (slice_set works i w) k ≡ work_of works k
+work_elsewhere works i n k w e less other =
+    let at : n - 1 ≡ i = omega (arith, e) in
+    subst (λ j. work_of (slice_set works j w) k ≡ work_of works k) at (others works n n refl (omega (arith, e), omega (arith, e, less)) w k other)
 
 -- the transactions of a lane with a number
 module _ (settings : Settings) where
@@ -63,7 +54,7 @@ module _ (settings : Settings) where
 
   pub jobs_by_number : (works : List LaneWork) (n : ℕ) → runs.jobs_of 1 (all_jobs settings works) n ≡ jobs_of settings (work_of works n)
   jobs_by_number works n =
-      ⊎_elim (λ x. jobs_low works 1 n (omega (arith, x.1)) ∙ ap (jobs_of settings) (sym (work_none works n x.1)))
+      ⊎_elim (λ x. jobs_low works 1 n (omega (arith, x.1)) ∙ ap (jobs_of settings) (sym (none_at works n x.1)))
       (λ x. let least : 1 ≤ n = omega (arith, x.1) in
-      jobs_at works 1 (n - 1) n (omega (arith, least)) ∙ ap (jobs_of settings) (sym (work_placed works n least)))
+      jobs_at works 1 (n - 1) n (omega (arith, least)) ∙ ap (jobs_of settings) (sym (placed works n least)))
       (eqb_tells n 0)

@@ -1,34 +1,26 @@
 -- Lanes that are opened one after another.
-use Rattle.std.proofs.Common.{◌≡◌, ◌≢◌, ◌⊎◌, inl, inr, ⊎_elim, ℕ, ◌+◌, ◌-◌, ◌<◌, ◌≤◌, true, false, List, [], ◌∷◌, ◌++◌, length, map, drop, get_or, slice_set, replicate, All, Option, None, is_some, rules, refl, sym, ap, subst, ◌∙◌, arith, append_assoc}
-use Rattle.std.specs.Io.KnownBytes.{Appends}
+use Rattle.std.proofs.Common.{◌≡◌, ◌≢◌, ⊎_elim, ℕ, ◌+◌, ◌-◌, ◌<◌, ◌≤◌, true, List, [], ◌++◌, length, drop, get_or, slice_set, replicate, All, Option, rules, refl, sym, ap, subst, ◌∙◌, arith}
 use Rattle.std.proofs.lemmas.Bool.Decides.{eqb_tells, leb_tells}
 use Rattle.std.proofs.lemmas.List.{get_or-replicate, length-replicate, get_or-map, drop_more, drop_all, length-map}
 use Rattle.std.proofs.lemmas.List.Elements.{All-get_or}
-use Rattle.std.proofs.lemmas.Option.{slice_get-get_or, get_or_from_slice_get}
 use Rattle.ep_base.specs.Configuration.{Settings}
 use Rattle.ep_base.specs.Kernel.{Scripted}
-use Rattle.ep_lanes.specs.Lanes.{LaneHeld, Held, no_lane, new_lane, lane_of, is_live, has_open, count_of, new_lanes}
+use Rattle.ep_lanes.specs.Lanes.{LaneHeld, Held, no_lane, new_lane, lane_of, count_of, new_lanes}
 use Rattle.ep_lanes.proofs.Numbering.{placed, past_all}
-use Rattle.law_turns.specs.LaneText.{Job, Going, opens}
-use Rattle.law_turns.specs.WholeRun.{opening_lanes, opening_text, opened_run}
+use Rattle.law_turns.specs.LaneText.{opens}
+use Rattle.law_turns.specs.WholeRun.{opening_text, opened_run}
 use Rattle.law_turns.proofs.Owning.{opening_going}
-use Rattle.lane_report.specs.Reports.{IsNewWork, LanesOpened}
-use Rattle.lane_report.specs.Shows.{ReportState, ShowsLane, Shows, FitsLane, Fits}
+use Rattle.lane_report.specs.Reports.{IsNewWork}
+use Rattle.lane_report.specs.Shows.{ShowsLane, Shows, FitsLane, Fits}
 use Rattle.lane_report.specs.Works.{LaneWork, no_work, work_of, jobs_of, all_jobs}
 use Rattle.lane_report.specs.Written.{with_text}
-use Rattle.lane_report.proofs.Numbering.{work_placed, work_none, work_past, work_here, work_elsewhere, jobs_by_number}
+use Rattle.lane_report.proofs.Numbering.{work_past, item_is, work_here, work_elsewhere, jobs_by_number}
+use Rattle.lane_report.proofs.Places as place
 
 -- a lane that is new
 pub new_at : {S : Type 0} (count : ℕ) (turns : List ℕ) (n : ℕ) → 1 ≤ n → n ≤ count → lane_of {S = S} (new_lanes count turns) n ≡ new_lane
 new_at count turns n least most =
     placed (replicate count new_lane) n least ∙ get_or-replicate count (n - 1) new_lane no_lane (omega (arith, least, most))
-
--- the element of a list is what the lane with its number has to do
-pub item_is : (works : List LaneWork) (i n : ℕ) (d : LaneWork) → n ≡ i + 1 → i < length works → work_of works n ≡ get_or works i d
-item_is works i n d e less =
-    let at : n - 1 ≡ i = omega (arith, e) in
-    work_placed works n (omega (arith, e))
-    ∙ (ap (λ k. get_or works k no_work) at ∙ get_or_from_slice_get works i (get_or works i d) no_work (slice_get-get_or works i d less))
 
 -- a lane shows what these transactions of it come to once they are opened
 abbrev pub ShowsBegun : Settings → (fsdi lane : ℕ) → LaneHeld Scripted → (work todo : LaneWork) → Type 0
@@ -53,9 +45,9 @@ text_next settings fsdi lane i todo w less is number first =
     let rest = opening_text fsdi (lane + 1) (drop (i + 1) jobs) in
     let size = length-map todo (jobs_of settings) in
     let one : 1 ≡ w.txn + 1 = omega (arith, first) in
-    let place : lane - 1 ≡ i = omega (arith, number) in
+    let at : lane - 1 ≡ i = omega (arith, number) in
     let here : get_or todo i no_work ≡ w =
-    ap (λ k. get_or todo k no_work) (sym place) ∙ (sym (work_placed todo lane (omega (arith, number))) ∙ sym is) in
+    ap (λ k. get_or todo k no_work) (sym at) ∙ (sym (place.placed todo lane (omega (arith, number))) ∙ sym is) in
     let head : get_or jobs i [] ≡ jobs_of settings w = get_or-map (jobs_of settings) todo i no_work [] less ∙ ap (jobs_of settings) here in
     ap (opening_text fsdi lane) (drop_more jobs i [] (omega (arith, less, size)))
     ∙ (ap (λ js. (opens fsdi lane 1 js).text ++ rest) head ∙ ap (λ k. (opens fsdi lane k (jobs_of settings w)).text ++ rest) one)
@@ -97,8 +89,8 @@ module _ (settings : Settings) (fsdi : ℕ) (before : Held Scripted) (todo : Lis
 
     pub next_is_new : (d : LaneWork) → IsNewWork settings (get_or works i d)
     next_is_new d =
-        let place : lane - 1 ≡ i = omega (arith, is) in
-        let here : work_of todo lane ≡ get_or todo i no_work = work_placed todo lane (omega (arith, is)) ∙ ap (λ k. get_or todo k no_work) place in
+        let at : lane - 1 ≡ i = omega (arith, is) in
+        let here : work_of todo lane ≡ get_or todo i no_work = place.placed todo lane (omega (arith, is)) ∙ ap (λ k. get_or todo k no_work) at in
         subst (IsNewWork settings) (sym (next_work d ∙ here)) (All-get_or (IsNewWork settings) todo i no_work less all)
 
     -- its text is the first of those that are left
@@ -125,7 +117,8 @@ module _ (settings : Settings) (fsdi : ℕ) (before : Held Scripted) (todo : Lis
         (subst (λ v. ShowsBegun settings fsdi lane (lane_of later lane) after v) (next_work d)
         (subst (λ k. ShowsLane settings fsdi (lane_of later lane) after (opens fsdi lane k (jobs_of settings w)).going) one shows)) in
         let fitting : FitsLane (lane_of later lane) (work_of ws lane) = subst (λ v. FitsLane (lane_of later lane) v) (sym here) fits in
-        let same_work : (n : ℕ) → n ≢ lane → work_of ws n ≡ work_of works n = λ n d. work_elsewhere works i n after (λ e. d (e ∙ sym is)) in
+        let same_work : (n : ℕ) → n ≢ lane → work_of ws n ≡ work_of works n = λ n d.
+        work_elsewhere works i lane n after is (omega (arith, less, size)) d in
         record {
           count = count ∙ so_far.count;
           size = search rules;

@@ -11,13 +11,13 @@ numbered b works n = if b then no_work else unwrap_or (slice_get works (n - 1)) 
 
 module _ (works : List LaneWork) where
   -- a number from 1 on is a place
-  placed : (n : ℕ) → 1 ≤ n → work_of works n ≡ get_or works (n - 1) no_work
+  pub placed : (n : ℕ) → 1 ≤ n → work_of works n ≡ get_or works (n - 1) no_work
   placed n least =
       ⊎_elim (λ x. absurd (omega (arith, x.1)))
       (λ x. subst (λ (b : Bool). numbered b works n ≡ get_or works (n - 1) no_work) (sym x.0) (unwrap_or-slice_get works (n - 1) no_work))
       (eqb_tells n 0)
 
-  none_at : (n : ℕ) → n ≡ 0 → work_of works n ≡ no_work
+  pub none_at : (n : ℕ) → n ≡ 0 → work_of works n ≡ no_work
   none_at n e = subst (λ k. work_of works k ≡ no_work) (sym e) refl
 
 module _ (works : List LaneWork) (i lane : ℕ) (e : i ≡ lane) (there : (1 ≤ lane) × (lane ≤ length works)) where
