@@ -1,3 +1,4 @@
 pub mod Appending
 pub mod Each
 pub mod Ready
+pub mod Promising

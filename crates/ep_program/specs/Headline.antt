@@ -11,6 +11,7 @@ use Rattle.ep_base.specs.Talk.{Talk}
 use Rattle.ep_base.specs.TransportRun.{said_for}
 use Rattle.ep_base.specs.WrittenText.{event_lines, transaction_text}
 use Rattle.law_transaction.specs.Legal.{ScriptedSends}
+use Rattle.law_turns.specs.LaneText.{Job}
 use Rattle.entry_session.specs.Perfect.{talk_of}
 use Rattle.entry_session.specs.Radio.{CourseOf, HasFieldRoom, IsNewRadio}
 use Rattle.pre_processing.specs.Preparation.{Preparation}
@@ -28,6 +29,10 @@ radio_before fsdi w = record { medium = w.field; fsdi = fsdi; link = None }
 -- What a transaction says and asks, with its kernels (EMV Book B).
 abbrev pub talk_in : Settings → Work → Talk
 talk_in settings w = talk_of (preparation settings w) w.scripts
+
+-- A transaction before its first exchange, as a run of lanes has it (this project's own).
+abbrev pub job_of : Settings → Work → Job
+job_of settings w = record { talk = talk_in settings w; field = w.field }
 
 -- A course of a transaction over the radio: what is heard in it up to its end, and the cards then. It keeps to the perfect run for the ends of its
 -- rounds, or ends at a link's third bad hearing (this project's own).
