@@ -1,0 +1,6 @@
+pub mod Begun
+pub mod Reports
+pub mod Shows
+pub mod Turned
+pub mod Works
+pub mod Written

@@ -1,0 +1,64 @@
+-- When lanes and what they have to do show a run (this project's own).
+use Rattle.std.specs.Prelude.{◌≡◌, ℕ, true, List, length, Option, Some, None, is_some}
+use Rattle.ep_base.specs.Configuration.{Settings}
+use Rattle.ep_base.specs.Hearing.{Asked, Hearing}
+use Rattle.ep_base.specs.Kernel.{Scripted, scripted}
+use Rattle.ep_lanes.specs.Lanes.{LaneHeld, Held, no_lane, lane_of, lanes_of, count_of}
+use Rattle.ep_lanes.specs.Probing.{ProbeAnswers}
+use Rattle.ep_lanes.specs.Turns.{Stands}
+use Rattle.ep_lanes.specs.declared.holding.Lanes.{Lanes}
+use Rattle.kernel_port.specs.Scripts.{scripted_of}
+use Rattle.kernel_port.specs.declared.scripts.Scripts.{Scripts}
+use Rattle.law_turns.specs.LaneText.{Going}
+use Rattle.law_turns.specs.WholeRun.{ProbeSteps, Run}
+use Rattle.lane_report.specs.Works.{LaneWork, work_of, jobs_of}
+use Rattle.lane_report.specs.Written.{with_text}
+
+-- Lanes whose kernels follow scripts, in plain data (this project's own).
+abbrev pub held_of : {b : _} → Lanes Scripts b → Held Scripted
+held_of lanes = lanes_of scripted_of (λ s. s.active) (λ s. s.fresh) lanes
+
+-- A lane shows one that has an exchange left: its open transaction stands where that one stands, over the field that was left so, and its number and
+-- the transactions after it are the same (this project's own).
+pub record ShowsGoing (settings : Settings) (fsdi : ℕ) (held : LaneHeld Scripted) (work : LaneWork) (g : Going) : Type 0 where
+  pub live : held.live ≡ true
+  pub opened : is_some held.transaction ≡ true
+  pub stands : Stands scripted held g.talk fsdi g.lane.standing
+  pub field : work.field ≡ Some g.lane.field
+  pub number : work.txn ≡ g.txn
+  pub left : jobs_of settings work ≡ g.left
+
+-- A lane shows one of a run; without an exchange left it has ended (this project's own).
+abbrev pub ShowsLane : Settings → ℕ → LaneHeld Scripted → LaneWork → Option Going → Type 0
+ShowsLane settings fsdi held work None = held ≡ no_lane
+ShowsLane settings fsdi held work (Some g) = ShowsGoing settings fsdi held work g
+
+-- A lane has an open transaction exactly where it is live, and a field exactly there (this project's own).
+pub record FitsLane (held : LaneHeld Scripted) (work : LaneWork) : Type 0 where
+  pub opened : is_some held.transaction ≡ held.live
+  pub field : is_some work.field ≡ held.live
+
+-- All lanes are so, and each has its own to do (this project's own).
+pub record Fits (lanes : Held Scripted) (works : List LaneWork) : Type 0 where
+  pub count : count_of lanes ≡ length works
+  pub each : (lane : ℕ) → FitsLane (lane_of lanes lane) (work_of works lane)
+
+-- The lanes, what they have to do, the state of the probe, and the bytes written, where they are told (this project's own).
+pub record ReportState (P : Type 0) : Type 0 where
+  pub lanes : Held Scripted
+  pub works : List LaneWork
+  pub probe : P
+  pub written : Option (List ℕ)
+
+-- They show a run whose text was written since this start: each lane shows the run's lane with its number, and all else is the run's (this project's
+-- own).
+pub record Shows {P : Type 0} (settings : Settings) (fsdi : ℕ) (start : Option (List ℕ)) (s : ReportState P) (run : Run P) : Type 0 where
+  pub each : (lane : ℕ) → ShowsLane settings fsdi (lane_of s.lanes lane) (work_of s.works lane) (run.lanes lane)
+  pub order : s.lanes.order ≡ run.order
+  pub probe : s.probe ≡ run.probe
+  pub text : s.written ≡ with_text start run.text
+
+-- The probe's answers are those of these steps (this project's own).
+abbrev pub Tells : {P : Type 0} → ProbeAnswers P → ProbeSteps P → Type 0
+Tells {P} answers steps =
+    (p : P) (lane : ℕ) (ask : Asked) (given heard : Hearing) (q : P) → answers.hears p lane ask given heard q → steps.hear p lane ask given ≡ (q, heard)

@@ -1,0 +1,10 @@
+//! The report of several lanes as they run: one exchange of one lane per turn, and each turn's lines are pushed to a sink
+//! (this project's own).
+#![tactic(auto)]
+
+mod opening;
+mod turning;
+mod works;
+mod writing;
+
+pub use works::{LaneJobs, works_of};

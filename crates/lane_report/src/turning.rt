@@ -1,0 +1,201 @@
+//! A turn: one exchange of one lane, and what is written of it.
+ghost use Rattle.std.specs.Prelude.{◌≡◌, ◌≢◌, ◌≤◌, ◌+◌, ◌++◌, ℕ, true, false, Some, None, OnOk, OnErr, IsErr, is_some, length};
+ghost use Rattle.std.specs.Io.KnownBytes.{Appends};
+ghost use Rattle.arrayvec.specs.ArrayVec.{array_vec_len};
+ghost use Rattle.ep_base.specs.Causes.{HasCause};
+ghost use Rattle.ep_base.specs.Field as plain;
+ghost use Rattle.ep_base.specs.Io.{AppendsPrefix};
+ghost use Rattle.ep_base.specs.WrittenText.{log_lines};
+ghost use Rattle.ep_lanes.specs.Lanes.{count_of, has_open, is_live, lane_of, next_lane, next_of};
+ghost use Rattle.ep_lanes.specs.Saying.{is_goes};
+ghost use Rattle.law_turns.specs.LaneText.{after_text, opens};
+ghost use Rattle.session_phases.specs.Told.{told_by};
+ghost use Rattle.lane_report.specs.Shows.{Fits, FitsLane, held_of};
+ghost use Rattle.lane_report.specs.Turned.{GoesOn, GoesOnPart, HeardTurn, LaneCut, LaneTurned, TurnCut, TurnTaken, Wrote};
+ghost use Rattle.lane_report.specs.Works.{jobs_of};
+
+use crate::opening::begin_next;
+use crate::works::LaneJobs;
+use crate::writing::{write_exchange, write_log};
+use acquirer_config::Config;
+use ep_base::{Sink, SinkFailed};
+use ep_lanes::{EventList, Lanes, Probe, Turned};
+use scenario::Scripts;
+
+/// Makes the next exchange, which is one of this lane, over the field of its open transaction. A field never fails.
+fn hear_next<P: Probe>(
+    lane: u8,
+    lanes: &mut Lanes<Scripts>,
+    work: &mut LaneJobs,
+    probe: &mut P,
+    events: &mut EventList,
+) -> Turned
+    requires next { next_lane (held_of lanes.old) ≡ Some lane }
+    requires opened { has_open (held_of lanes.old) lane ≡ true }
+    requires field { is_some work.old.field ≡ true }
+    requires empty { array_vec_len events.old ≡ 0 }
+    ensures turns { (f : plain.Field) → work.old.field ≡ Some f →
+        HeardTurn P.steps lane (held_of lanes.old) f (P.state probe.old) result (told_by events.new.items) (held_of lanes.new) work.new.field (P.state probe.new) }
+    ensures made { is_some (held_of lanes.new).last ≡ true }
+    ensures live { is_live (held_of lanes.new) lane ≡ true }
+    ensures goes { has_open (held_of lanes.new) lane ≡ is_goes result }
+    ensures field { is_some work.new.field ≡ true }
+    ensures left { work.new.left ≡ work.old.left }
+    ensures number { work.new.txn ≡ work.old.txn }
+    ensures others { (k : ℕ) → k ≢ lane → lane_of (held_of lanes.new) k ≡ lane_of (held_of lanes.old) k }
+    ensures count { count_of (held_of lanes.new) ≡ count_of (held_of lanes.old) }
+    ensures order { next_of (held_of lanes.old) ≡ Some (lane, (held_of lanes.new).order) }
+{
+    let Some(mut field) = work.take_field() else {
+        unreachable!()
+    };
+    let Ok(turned) = lanes.turn(lane, &mut field, probe, events) else {
+        unreachable!()
+    };
+    work.put_field(field);
+    turned
+}
+
+/// Writes the log of a transaction that ended, and opens the lane's next one.
+///
+/// Errors: the sink failed; a first part of the lines was written.
+fn close_and_next<K: Sink>(
+    lane: u8,
+    lanes: &mut Lanes<Scripts>,
+    config: &Config,
+    fsdi: u8,
+    work: &mut LaneJobs,
+    output: &mut K,
+) -> Result<(), SinkFailed>
+    requires code { fsdi ≤ 8 }
+    requires live { is_live (held_of lanes.old) lane ≡ true }
+    requires closed { has_open (held_of lanes.old) lane ≡ false }
+    requires field { is_some work.old.field ≡ true }
+    ensures ok { OnOk result ((f : plain.Field) → work.old.field ≡ Some f →
+        Wrote config.now fsdi (lane_of (held_of lanes.new) lane) work.new (K.written output.old) (K.written output.new)
+        (after_text (log_lines lane work.old.txn f.log) (opens fsdi lane (work.old.txn + 1) (jobs_of config.now work.old)))) }
+    ensures fits { OnOk result (FitsLane (lane_of (held_of lanes.new) lane) work.new) }
+    ensures err { OnErr result ((f : plain.Field) → work.old.field ≡ Some f → AppendsPrefix (K.written output.old) (K.written output.new)
+        (log_lines lane work.old.txn f.log ++ (opens fsdi lane (work.old.txn + 1) (jobs_of config.now work.old)).text)) }
+    ensures told { is_some (K.written output.new) ≡ is_some (K.written output.old) }
+    ensures cause { HasCause (K.faults output.old) (K.faults output.new) (IsErr result) }
+    ensures others { (k : ℕ) → k ≢ lane → lane_of (held_of lanes.new) k ≡ lane_of (held_of lanes.old) k }
+    ensures count { count_of (held_of lanes.new) ≡ count_of (held_of lanes.old) }
+    ensures order { (held_of lanes.new).order ≡ (held_of lanes.old).order }
+{
+    let Some(field) = work.take_field() else {
+        unreachable!()
+    };
+    match write_log(lane, work.txn(), field.log().records(), output) {
+        Ok(()) => begin_next(lane, lanes, config, fsdi, work, output),
+        Err(_) => Err(SinkFailed),
+    }
+}
+
+/// After an exchange: the lane waits for its next one, or its transaction has ended, and the next one is opened.
+///
+/// Errors: the sink failed; a first part of the lines was written.
+fn go_on<K: Sink>(
+    lane: u8,
+    lanes: &mut Lanes<Scripts>,
+    config: &Config,
+    fsdi: u8,
+    turned: Turned,
+    work: &mut LaneJobs,
+    output: &mut K,
+) -> Result<(), SinkFailed>
+    requires code { fsdi ≤ 8 }
+    requires live { is_live (held_of lanes.old) lane ≡ true }
+    requires goes { has_open (held_of lanes.old) lane ≡ is_goes turned }
+    requires field { is_some work.old.field ≡ true }
+    ensures ok { OnOk result (GoesOn config.now fsdi lane (lane_of (held_of lanes.old) lane) work.old turned (lane_of (held_of lanes.new) lane) work.new
+        (K.written output.old) (K.written output.new)) }
+    ensures fits { OnOk result (FitsLane (lane_of (held_of lanes.new) lane) work.new) }
+    ensures err { OnErr result (GoesOnPart config.now fsdi lane (lane_of (held_of lanes.old) lane) work.old turned (K.written output.old) (K.written output.new)) }
+    ensures told { is_some (K.written output.new) ≡ is_some (K.written output.old) }
+    ensures cause { HasCause (K.faults output.old) (K.faults output.new) (IsErr result) }
+    ensures others { (k : ℕ) → k ≢ lane → lane_of (held_of lanes.new) k ≡ lane_of (held_of lanes.old) k }
+    ensures count { count_of (held_of lanes.new) ≡ count_of (held_of lanes.old) }
+    ensures order { (held_of lanes.new).order ≡ (held_of lanes.old).order }
+{
+    match turned {
+        Turned::Goes => Ok(()),
+        Turned::Ended(_) => close_and_next(lane, lanes, config, fsdi, work, output),
+    }
+}
+
+/// The turn of this lane, with what it has to do.
+///
+/// Errors: the sink failed; a first part of the lines was written.
+fn turn_lane<K: Sink, P: Probe>(
+    lane: u8,
+    lanes: &mut Lanes<Scripts>,
+    config: &Config,
+    fsdi: u8,
+    traced: bool,
+    work: &mut LaneJobs,
+    output: &mut K,
+    probe: &mut P,
+) -> Result<(), SinkFailed>
+    requires code { fsdi ≤ 8 }
+    requires next { next_lane (held_of lanes.old) ≡ Some lane }
+    requires opened { has_open (held_of lanes.old) lane ≡ true }
+    requires field { is_some work.old.field ≡ true }
+    ensures ok { OnOk result (LaneTurned P.steps config.now traced fsdi lane
+        (record { held = lane_of (held_of lanes.old) lane; work = work.old; probe = P.state probe.old; written = K.written output.old })
+        (record { held = lane_of (held_of lanes.new) lane; work = work.new; probe = P.state probe.new; written = K.written output.new })) }
+    ensures fits { OnOk result (FitsLane (lane_of (held_of lanes.new) lane) work.new) }
+    ensures err { OnErr result (LaneCut P.steps config.now traced fsdi lane
+        (record { held = lane_of (held_of lanes.old) lane; work = work.old; probe = P.state probe.old; written = K.written output.old })
+        (K.written output.new)) }
+    ensures told { is_some (K.written output.new) ≡ is_some (K.written output.old) }
+    ensures cause { HasCause (K.faults output.old) (K.faults output.new) (IsErr result) }
+    ensures others { (k : ℕ) → k ≢ lane → lane_of (held_of lanes.new) k ≡ lane_of (held_of lanes.old) k }
+    ensures count { count_of (held_of lanes.new) ≡ count_of (held_of lanes.old) }
+    ensures order { next_of (held_of lanes.old) ≡ Some (lane, (held_of lanes.new).order) }
+{
+    let mut events = EventList::new();
+    let turned = hear_next(lane, lanes, work, probe, &mut events);
+    let Some(made) = lanes.last() else {
+        unreachable!()
+    };
+    match write_exchange(traced, made, work.txn(), &events, output) {
+        Ok(()) => go_on(lane, lanes, config, fsdi, turned, work, output),
+        Err(_) => Err(SinkFailed),
+    }
+}
+
+/// Takes the next turn, which is one of this lane: makes its exchange over the field of its open transaction, and writes
+/// its trace line, where a trace is wanted, and its events. Where the transaction ended its log follows, and the lane's
+/// next transaction is opened.
+///
+/// Errors: the sink failed; a first part of the lines was written.
+pub(crate) fn take_turn<K: Sink, P: Probe>(
+    lane: u8,
+    lanes: &mut Lanes<Scripts>,
+    config: &Config,
+    fsdi: u8,
+    traced: bool,
+    works: &mut [LaneJobs],
+    output: &mut K,
+    probe: &mut P,
+) -> Result<(), SinkFailed>
+    requires code { fsdi ≤ 8 }
+    requires next { next_lane (held_of lanes.old) ≡ Some lane }
+    requires fits { Fits (held_of lanes.old) works.old }
+    ensures ok { OnOk result (TurnTaken P.steps config.now traced fsdi
+        (record { lanes = held_of lanes.old; works = works.old; probe = P.state probe.old; written = K.written output.old })
+        (record { lanes = held_of lanes.new; works = works.new; probe = P.state probe.new; written = K.written output.new })) }
+    ensures fits { OnOk result (Fits (held_of lanes.new) works.new) }
+    ensures err { OnErr result (TurnCut P.steps config.now traced fsdi
+        (record { lanes = held_of lanes.old; works = works.old; probe = P.state probe.old; written = K.written output.old })
+        (K.written output.new)) }
+    ensures told { is_some (K.written output.new) ≡ is_some (K.written output.old) }
+    ensures cause { HasCause (K.faults output.old) (K.faults output.new) (IsErr result) }
+    ensures length { length works.new ≡ length works.old }
+{
+    let work = &mut works[usize::from(lane) - 1];
+    turn_lane(
+        lane, lanes, config, fsdi, traced, work, output, probe,
+    )
+}
