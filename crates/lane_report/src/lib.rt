@@ -3,8 +3,10 @@
 #![tactic(auto)]
 
 mod opening;
+mod run;
 mod turning;
 mod works;
 mod writing;
 
+pub use run::report_lanes;
 pub use works::{LaneJobs, works_of};

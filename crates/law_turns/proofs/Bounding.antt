@@ -92,7 +92,7 @@ ready_few : (n : ℕ) (ones : List Ready) (t : Talk) → IsFew t → IsFew (say_
 ready_few n [] t h = h
 ready_few n (one ∷ ones) t h = ready_few (n + 1) ones t h
 
-transaction_few : {S : Type 0} (k : KernelSteps S) (txn_type amount : ℕ) (ones : List Ready) (s : S) → IsFew (transaction k txn_type amount ones s)
+pub transaction_few : {S : Type 0} (k : KernelSteps S) (txn_type amount : ℕ) (ones : List Ready) (s : S) → IsFew (transaction k txn_type amount ones s)
 transaction_few k txn_type amount ones s =
     let polls = Say (Notice PresentCard) (starts k ones (k.restarts s) s) in
     let refuses = Say (Outcome TryAnother) (Say (Notice InsertOrSwipe) (Over Finished)) in

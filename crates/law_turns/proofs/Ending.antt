@@ -256,7 +256,7 @@ runs_end_law probe traced fsdi turns p lanes bounded =
 -- ---- one end
 
 module _ {P : Type 0} (traced : Bool) (probe : ProbeSteps P) (fsdi count : ℕ) where
-  over_same : (k : ℕ) (run : Run P) → HasEnded count run → times (run_step traced probe fsdi count) k run ≡ run
+  pub over_same : (k : ℕ) (run : Run P) → HasEnded count run → times (run_step traced probe fsdi count) k run ≡ run
   over_same zero run e = refl
   over_same (suc k) run e = ap (λ t. times (run_step traced probe fsdi count) k (takes_turn traced probe fsdi t run)) e ∙ over_same k run e
 

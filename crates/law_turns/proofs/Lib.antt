@@ -2,6 +2,7 @@ pub mod Apart
 pub mod Bounding
 pub mod Counting
 pub mod Ending
+pub mod Growing
 pub mod Keeping
 pub mod Ordering
 pub mod Owning

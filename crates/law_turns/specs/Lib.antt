@@ -1,6 +1,7 @@
 pub mod Apart
 pub mod Counting
 pub mod Ending
+pub mod Growing
 pub mod Keeping
 pub mod LaneText
 pub mod Order

@@ -7,6 +7,7 @@ ghost use Rattle.ep_base.specs.Kernel.{KernelSteps};
 ghost use Rattle.law_turns.specs.Apart.{LanesApart, OthersStay};
 ghost use Rattle.law_turns.specs.Counting.{EveryExchangeCounts, TransactionsAreBounded};
 ghost use Rattle.law_turns.specs.Ending.{OneEnd, RunsEnd, RunsEndWithin};
+ghost use Rattle.law_turns.specs.Growing.{RunsEndInMost, RunsStay, TextsGrow};
 ghost use Rattle.law_turns.specs.Keeping.{ToldKeep};
 ghost use Rattle.law_turns.specs.Pieces.{PiecesAreText};
 ghost use Rattle.law_turns.specs.Telling.{KeepsInRun, RunsTell, TellsReport};
@@ -75,6 +76,23 @@ pub fn runs_end<P>()
     ensures within { (probe : ProbeSteps P) → RunsEndWithin probe }
     ensures comes { (probe : ProbeSteps P) → RunsEnd probe }
     ensures once { (probe : ProbeSteps P) → OneEnd probe }
+{}
+
+/// Once a run is over it stays as it is at every larger count of exchanges, and the run of at most 8 lanes of at most 64
+/// transactions is over after 6,928,361,472 exchanges, whatever the probe makes of the hearings. P has the states of the
+/// probe.
+///
+/// Each transaction has at most 16 Combinations, and its kernels follow at most 4 scripts of at most 64 steps together, which
+/// send commands alone.
+pub fn runs_end_in_most<P>()
+    ensures stay { (probe : ProbeSteps P) → RunsStay probe }
+    ensures most { (probe : ProbeSteps P) → RunsEndInMost probe }
+{}
+
+/// What a run wrote is the beginning of what it has written after more exchanges, whatever the probe makes of the hearings.
+/// P has the states of the probe.
+pub fn texts_grow<P>()
+    ensures { (probe : ProbeSteps P) → TextsGrow probe }
 {}
 
 /// With the probe that gives on what it gets, and for every turn list, the pieces of a lane are, one after another, the

@@ -1,0 +1,138 @@
+-- An exchange of a lane over its field, as a run of lanes makes it.
+use Rattle.std.proofs.Common.{◌≡◌, ℕ, ◌+◌, Bool, true, false, List, ◌++◌, map, length, drop, sym, ap, subst, ◌∙◌, append_assoc}
+use Rattle.std.specs.Prelude.{Option, Some, None, if◌then◌else◌}
+use Rattle.std.specs.Io.KnownBytes.{Appends}
+use Rattle.std.proofs.Math.Seq.{drop-append_seam}
+use Rattle.ep_base.specs.Configuration.{Settings}
+use Rattle.ep_base.specs.Field.{Field, field, field_reset, field_send}
+use Rattle.ep_base.specs.Hearing.{Asked, Hearing}
+use Rattle.ep_base.specs.Io.{AppendsPrefix}
+use Rattle.ep_base.specs.Kernel.{Scripted, scripted}
+use Rattle.ep_base.specs.Medium.{told, AfterReset, ExchangesBy, Exchanges}
+use Rattle.ep_base.specs.Said.{Said}
+use Rattle.ep_base.specs.WrittenText.{event_lines}
+use Rattle.law_lane.specs.Exchanges.{Lane, field_answers, or_silence}
+use Rattle.law_lane.specs.Standing.{asked_by, events_of, after_hearing}
+use Rattle.law_turns.specs.LaneText.{Going, Piece, added, goes_on, heard_lane, trace_part}
+use Rattle.law_turns.specs.WholeRun.{ProbeSteps}
+use Rattle.ep_lanes.specs.Lanes.{Held, LaneHeld, Made, lane_of}
+use Rattle.ep_lanes.specs.Probing.{ProbeAnswers}
+use Rattle.ep_lanes.specs.Turns.{Makes}
+use Rattle.ep_lanes.specs.declared.exchange.Turned.{Turned}
+use Rattle.ep_lanes.proofs.Standing.{asks_then}
+use Rattle.lane_report.specs.Shows.{ShowsGoing, Tells}
+use Rattle.lane_report.specs.Turned.{HeardTurn, IsAfter, LaneState, TurnWrote, Wrote, heard_by, turn_piece}
+use Rattle.lane_report.specs.Works.{LaneWork, job_of}
+use Rattle.lane_report.proofs.Appending.{whole_next, part_next, part_front}
+use Rattle.lane_report.proofs.Closing.{some_same}
+
+-- What a field answers where it may answer so.
+after_reset : (well : Bool) (ask : Asked) (u t : Field) (h : Hearing) → AfterReset (told field) well u ask (Some h) t → field_send u ask.wave ask.bytes ≡ (Some h, t)
+after_reset true ask u t h e = e
+after_reset false ask u t h e = let never : Some h ≡ None = e.0 in cc
+
+by_reset : (b : Bool) (ask : Asked) (f t : Field) (h : Hearing) → ExchangesBy (told field) b f ask (Some h) t
+    → field_send (if b then field_reset f else f) ask.wave ask.bytes ≡ (Some h, t)
+by_reset false ask f t h e = e
+by_reset true ask f t h e =
+    subst (λ (u : Field). field_send u ask.wave ask.bytes ≡ (Some h, t)) (sym (ap (λ (r : Bool × Field). r.1) e.2)) (after_reset e.0 ask e.1 t h e.3)
+
+answers_so : (ask : Asked) (f t : Field) (h : Hearing) → Exchanges (told field) f ask (Some h) t → field_answers ask f ≡ (Some h, t)
+answers_so ask f t h e = by_reset ask.reset ask f t h e
+
+module _ {P : Type 0} (answers : ProbeAnswers P) (settings : Settings) (traced : Bool) (fsdi lane : ℕ) (before after : Held Scripted) (p q : P) (turned : Turned)
+    (said : List Said) (work heard_work : LaneWork) (turn : (f : Field) → work.field ≡ Some f → HeardTurn answers lane before f p turned said after heard_work.field q)
+    (left : heard_work.left ≡ work.left) (number : heard_work.txn ≡ work.txn) (m : Made) (last : Some m ≡ after.last) (n : ℕ) (written_as : n ≡ heard_work.txn)
+    (steps : ProbeSteps P) (tells : Tells answers steps) (g : Going) (shows : ShowsGoing settings fsdi (lane_of before lane) work g)
+    (ask : Asked) (asked : asked_by fsdi g.lane.standing.doing ≡ Some ask) where
+  this : HeardTurn answers lane before g.lane.field p turned said after heard_work.field q
+  this = turn g.lane.field shows.field
+
+  made_is : m ≡ this.turns.made
+  made_is = some_same m this.turns.made (last ∙ this.turns.last)
+
+  of_lane : m.lane ≡ lane
+  of_lane = ap (λ (x : Made). x.lane) made_is ∙ this.turns.number
+
+  makes : Makes scripted (told field) answers (lane_of before lane) g.lane.field p m turned said (lane_of after lane) this.field_then q
+  makes =
+      subst (λ (x : Made). Makes scripted (told field) answers (lane_of before lane) g.lane.field p x turned said (lane_of after lane) this.field_then q)
+      (sym made_is) this.turns.makes
+
+  ask_is : m.asked ≡ ask
+  ask_is =
+      makes.asked
+      ∙ sym (some_same ask makes.transaction.asks
+      (sym asked ∙ asks_then scripted g.talk fsdi g.lane.standing (lane_of before lane) makes.transaction makes.was shows.stands))
+
+  answer : field_answers ask g.lane.field ≡ (Some makes.given, this.field_then)
+  answer =
+      answers_so ask g.lane.field this.field_then makes.given
+      (subst (λ (x : Asked). Exchanges (told field) g.lane.field x (Some makes.given) this.field_then) ask_is makes.exchange)
+
+  heard_so : heard_by steps p lane g ask ≡ (q, m.heard)
+  heard_so =
+      subst (λ (h : Hearing). steps.hear p lane ask h ≡ (q, m.heard)) (sym (ap (λ (a : Option Hearing × Field). or_silence a.0) answer))
+      (subst (λ (x : Asked). steps.hear p lane x makes.given ≡ (q, m.heard)) ask_is
+      (subst (λ k. steps.hear p k m.asked makes.given ≡ (q, m.heard)) of_lane
+      (tells p m.lane m.asked makes.given m.heard q makes.heard)))
+
+  heard_is : (heard_by steps p lane g ask).1 ≡ m.heard
+  heard_is = ap (λ (r : P × Hearing). r.1) heard_so
+
+  -- the transaction after the exchange
+  abbrev pub then_lane : Lane
+  then_lane = heard_lane fsdi g.talk ask m.heard (field_answers ask g.lane.field).1 g.lane
+
+  pub is_after : IsAfter settings fsdi (lane_of after lane) heard_work turned g then_lane
+  is_after = record {
+    stands = makes.stands g.talk fsdi g.lane.standing shows.stands;
+    tells = makes.tells g.talk fsdi g.lane.standing shows.stands;
+    field = this.left_is ∙ ap Some (sym (ap (λ (a : Option Hearing × Field). a.1) answer));
+    number = number ∙ shows.number;
+    left = ap (λ ws. map (job_of settings) ws) left ∙ shows.left;
+  }
+
+  said_is : said ≡ added g.talk g.lane.standing then_lane.standing
+  said_is =
+      sym (drop-append_seam (events_of g.talk g.lane.standing) said)
+      ∙ ap (λ l. drop (length (events_of g.talk g.lane.standing)) l) (makes.events g.talk fsdi g.lane.standing shows.stands)
+
+  -- the trace line and the lines of the events
+  abbrev pub front : List ℕ
+  front = trace_part traced m.lane m.asked m.heard ++ event_lines m.lane n said
+
+  -- what follows them
+  abbrev pub more : Piece
+  more = goes_on fsdi lane g then_lane (asked_by fsdi then_lane.standing.doing)
+
+  front_is : front ≡ trace_part traced lane ask m.heard ++ event_lines lane g.txn (added g.talk g.lane.standing then_lane.standing)
+  front_is =
+      ap (λ k. trace_part traced k m.asked m.heard ++ event_lines k n said) of_lane
+      ∙ ap (λ (a : Asked). trace_part traced lane a m.heard ++ event_lines lane n said) ask_is
+      ∙ ap (λ k. trace_part traced lane ask m.heard ++ event_lines lane k said) (written_as ∙ number ∙ shows.number)
+      ∙ ap (λ xs. trace_part traced lane ask m.heard ++ event_lines lane g.txn xs) said_is
+
+  whole_is : (turn_piece traced fsdi lane g ask m.heard).text ≡ front ++ more.text
+  whole_is =
+      sym (append_assoc (trace_part traced lane ask m.heard) (event_lines lane g.txn (added g.talk g.lane.standing then_lane.standing)) more.text)
+      ∙ ap (λ l. l ++ more.text) (sym front_is)
+
+  pub turn_wrote : (held : LaneHeld Scripted) (next : LaneWork) (a b w : Option (List ℕ)) → Appends a b front → Wrote settings fsdi held next b w more
+      → TurnWrote settings traced steps fsdi lane (record { held = lane_of before lane; work = work; probe = p; written = a })
+      (record { held = held; work = next; probe = q; written = w }) g ask
+  turn_wrote held next a b w wrote rest = record {
+    wrote =
+        subst (λ (h : Hearing). Wrote settings fsdi held next a w (turn_piece traced fsdi lane g ask h)) (sym heard_is)
+        (record { text = whole_next a b front more.text _ whole_is wrote w rest.text; shows = rest.shows });
+    probe = sym (ap (λ (r : P × Hearing). r.0) heard_so);
+  }
+
+  pub turn_part : (a b w : Option (List ℕ)) → Appends a b front → AppendsPrefix b w more.text
+      → AppendsPrefix a w (turn_piece traced fsdi lane g ask (heard_by steps p lane g ask).1).text
+  turn_part a b w wrote rest =
+      subst (λ (h : Hearing). AppendsPrefix a w (turn_piece traced fsdi lane g ask h).text) (sym heard_is) (part_next a b front more.text _ whole_is wrote w rest)
+
+  pub turn_front : (a w : Option (List ℕ)) → AppendsPrefix a w front → AppendsPrefix a w (turn_piece traced fsdi lane g ask (heard_by steps p lane g ask).1).text
+  turn_front a w part =
+      subst (λ (h : Hearing). AppendsPrefix a w (turn_piece traced fsdi lane g ask h).text) (sym heard_is) (part_front a w front more.text _ whole_is part)

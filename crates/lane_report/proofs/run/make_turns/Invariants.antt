@@ -1,0 +1,21 @@
+use Rattle.std.proofs.Common.{◌≡◌, ◌≤◌, length}
+use Rattle.std.specs.Prelude.{is_some}
+use Rattle.lane_report.specs.Shows.{Fits, held_of}
+use Rattle.lane_report.proofs.Running.{TurnsTaken}
+use Rattle.lane_report.proofs.run.make_turns.Given as goal
+
+-- so many turns were made
+abbrev pub invariant-loop-made : goal.invariant-loop-made
+invariant-loop-made g l =
+    let K = g.K.Sink in
+    let P = g.P.Probe in
+    record {
+      fits : Fits (held_of l.lanes) l.works;
+      size : length l.works ≡ length l.fn.works;
+      taken :
+          TurnsTaken P.steps l.config l.traced l.fsdi l._made
+          (record { lanes = held_of l.fn.lanes; works = l.fn.works; probe = P.state l.fn.probe; written = K.written l.fn.output })
+          (record { lanes = held_of l.lanes; works = l.works; probe = P.state l.probe; written = K.written l.output });
+      told : is_some (K.written l.output) ≡ is_some (K.written l.fn.output);
+      later : K.faults l.fn.output ≤ K.faults l.output;
+    }

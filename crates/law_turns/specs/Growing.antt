@@ -1,0 +1,63 @@
+-- A run's text grows, and a run that is over stays as it is (this project's own).
+use Rattle.std.specs.Prelude.{◌≡◌, ℕ, ◌+◌, ◌*◌, ◌≤◌, Bool, List, ◌++◌, length, All}
+use Rattle.ep_base.specs.EntryPoint.{transaction}
+use Rattle.ep_base.specs.Kernel.{Scripted, scripted}
+use Rattle.ep_base.specs.PreProcessing.{Ready}
+use Rattle.ep_base.specs.Talk.{Talk}
+use Rattle.law_run.specs.Bounds.{log_bound}
+use Rattle.law_transaction.specs.Legal.{ScriptedSends}
+use Rattle.law_turns.specs.LaneText.{Job}
+use Rattle.law_turns.specs.WholeRun.{ProbeSteps, run_after}
+use Rattle.law_turns.specs.Counting.{exchanges_most}
+use Rattle.law_turns.specs.Ending.{HasEnded}
+
+-- What was written is the beginning of what is written after more exchanges (this project's own).
+abbrev pub TextsGrow : {P : Type 0} → ProbeSteps P → Type 0
+TextsGrow {P} probe =
+    (traced : Bool) (fsdi : ℕ) (turns : List ℕ) (p : P) (lanes : List (List Job)) (m k : ℕ) →
+    (rest : List ℕ) × ((run_after traced probe fsdi turns p lanes (m + k)).text ≡ (run_after traced probe fsdi turns p lanes m).text ++ rest)
+
+-- A run that is over at a count of exchanges is over at each larger one, and is the same run there (this project's own).
+abbrev pub RunsStay : {P : Type 0} → ProbeSteps P → Type 0
+RunsStay {P} probe =
+    (traced : Bool) (fsdi : ℕ) (turns : List ℕ) (p : P) (lanes : List (List Job)) (m n : ℕ) → m ≤ n →
+    HasEnded (length lanes) (run_after traced probe fsdi turns p lanes m) →
+    HasEnded (length lanes) (run_after traced probe fsdi turns p lanes n)
+    × (run_after traced probe fsdi turns p lanes n ≡ run_after traced probe fsdi turns p lanes m)
+
+-- The transaction of at most 16 Combinations, with kernels that follow at most 4 scripts of at most 64 steps together, which send commands alone
+-- (this project's profile).
+pub record IsShort (talk : Talk) : Type 0 where
+  pub txn_type : ℕ
+  pub amount : ℕ
+  pub list : List Ready
+  pub kernels : Scripted
+  pub is : talk ≡ transaction scripted txn_type amount list kernels
+  pub few_combinations : length list ≤ 16
+  pub few_scripts : scripted.restarts kernels ≤ 4
+  pub few_steps : scripted.commands kernels ≤ 64
+  pub sends : ScriptedSends kernels
+
+-- At most 64 such transactions (this project's profile).
+pub record IsShortLane (jobs : List Job) : Type 0 where
+  pub few : length jobs ≤ 64
+  pub short : All (λ (j : Job). IsShort j.talk) jobs
+
+-- At most 8 such lanes (this project's profile).
+pub record AreShort (lanes : List (List Job)) : Type 0 where
+  pub few : length lanes ≤ 8
+  pub short : All IsShortLane lanes
+
+-- The most exchanges of such a transaction: those of its most commands, and of five Start Bs (this project's profile).
+unfoldable pub most_of_one : ℕ
+most_of_one = exchanges_most (log_bound 4 16 64) 5
+
+-- The most exchanges of such lanes (this project's profile).
+unfoldable pub most_exchanges : ℕ
+most_exchanges = 512 * most_of_one
+
+-- Whatever the probe makes of the hearings, the run of such lanes is over after these exchanges (this project's own).
+abbrev pub RunsEndInMost : {P : Type 0} → ProbeSteps P → Type 0
+RunsEndInMost {P} probe =
+    (traced : Bool) (fsdi : ℕ) (turns : List ℕ) (p : P) (lanes : List (List Job)) → AreShort lanes →
+    HasEnded (length lanes) (run_after traced probe fsdi turns p lanes most_exchanges)
