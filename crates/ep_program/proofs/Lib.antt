@@ -1,4 +1,2 @@
-pub mod Appending
-pub mod Each
-pub mod Ready
 pub mod Promising
+pub mod Ready

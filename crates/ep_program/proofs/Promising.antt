@@ -28,7 +28,8 @@ use Rattle.law_turns.proofs.Stepping.{by_step}
 use Rattle.law_turns.proofs.Telling.{runs_tell_law, tells_report_law}
 use Rattle.law_turns.proofs.Writing.{pieces_are_text_law}
 use Rattle.scenario.specs.Scene.{Work}
-use Rattle.ep_program.specs.Headline.{preparation, radio_before, job_of, IsFresh}
+use Rattle.lane_report.specs.Works.{preparation, job_of}
+use Rattle.ep_program.specs.Headline.{IsFresh}
 use Rattle.ep_program.specs.Promise.{cards_in, GivesOn, IsReport, HasPromise}
 
 -- ---- a run with a probe that gives on what it gets is one with the open probe
@@ -70,7 +71,7 @@ may_begin settings fsdi w fresh =
     record {
       new = fresh.new;
       carried = record {
-        legal = scripted_lem p.txn_type p.amount p.list w.scripts fresh.sends;
+        legal = scripted_lem p.txn_type p.amount p.list w.scripts fresh.few.sends;
         commands = log_bound (scripted.restarts w.scripts) (length p.list) (scripted.commands w.scripts);
         most = few_commands_lem scripted scripts_fall_lem p.txn_type p.amount p.list w.scripts;
         free = fresh.room;
