@@ -87,7 +87,6 @@ module _ (settings : Settings) (fsdi lane : ℕ) where
   here work = opens fsdi lane (work.txn + 1) (jobs_of settings work)
 
   module _ (w : Work) (work taken : LaneWork) (left : work.left ≡ w ∷ taken.left) (number : taken.txn ≡ work.txn + 1) where
-
     next_is : here work ≡ opens_by lane taken.txn (job_of settings w) (jobs_of settings taken) (here taken) (asked_first fsdi (job_of settings w))
     next_is =
         ap (λ ws. opens fsdi lane (work.txn + 1) (map (job_of settings) ws)) left

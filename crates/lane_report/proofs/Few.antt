@@ -1,10 +1,10 @@
 -- Lanes before their first transactions are short.
-use Rattle.std.proofs.Common.{◌≡◌, ℕ, ◌+◌, ◌*◌, ◌≤◌, ◌==◌, List, [], ◌∷◌, length, map, filter, All, None, Option, refl, sym, ap, subst, ◌∙◌, arith}
+use Rattle.std.proofs.Common.{◌≡◌, ℕ, ◌*◌, ◌≤◌, ◌==◌, List, [], ◌∷◌, length, filter, All, refl, sym, ap, subst, ◌∙◌, arith}
 use Rattle.std.proofs.lemmas.List.{length-map}
 use Rattle.std.proofs.lemmas.List.Sums.{length-filter}
 use Rattle.std.proofs.lemmas.List.Elements.{All-head, All-tail, All-map, All-weaker}
 use Rattle.ep_base.specs.Configuration.{Combination, Settings, count_of}
-use Rattle.ep_base.specs.Kernel.{Script, Scripted, Running, scripted, steps_left, running_left, running_count}
+use Rattle.ep_base.specs.Kernel.{Script, steps_left, running_left, running_count}
 use Rattle.ep_base.specs.PreProcessing.{prepared, prepared_one}
 use Rattle.law_turns.specs.Growing.{IsShort, IsShortLane, AreShort}
 use Rattle.law_turns.specs.LaneText.{Job}

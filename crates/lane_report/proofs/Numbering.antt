@@ -1,11 +1,10 @@
 -- What the lanes have to do, by the places of a list, and the transactions of a lane with a number.
-use Rattle.std.proofs.Common.{◌≡◌, ◌≢◌, ⊎_elim, ℕ, zero, suc, ◌+◌, ◌-◌, ◌<◌, ◌≤◌, ◌==◌, Bool, List, [], ◌∷◌, length, map, get_or, slice_get, slice_set, unwrap_or, sym, ◌∙◌, ap, subst, refl, arith}
+use Rattle.std.proofs.Common.{◌≡◌, ◌≢◌, ⊎_elim, ℕ, zero, suc, ◌+◌, ◌-◌, ◌<◌, ◌≤◌, List, [], ◌∷◌, length, get_or, slice_set, sym, ◌∙◌, ap, subst, refl, arith}
 use Rattle.std.specs.Prelude.{if◌then◌else◌}
 use Rattle.std.proofs.lemmas.Bool.Decides.{eqb_tells}
 use Rattle.std.proofs.lemmas.List.{get_or_past}
 use Rattle.std.proofs.lemmas.Option.{slice_get-get_or, get_or_from_slice_get}
 use Rattle.ep_base.specs.Configuration.{Settings}
-use Rattle.law_turns.specs.LaneText.{Job}
 use Rattle.law_turns.specs.Telling as runs
 use Rattle.law_turns.proofs.Stepping.{choose}
 use Rattle.lane_report.specs.Works.{LaneWork, no_work, work_of, jobs_of, all_jobs}

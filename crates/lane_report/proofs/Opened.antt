@@ -1,18 +1,17 @@
 -- Lanes that are opened one after another.
-use Rattle.std.proofs.Common.{◌≡◌, ◌≢◌, ◌⊎◌, inl, inr, ⊎_elim, ℕ, ◌+◌, ◌-◌, ◌<◌, ◌≤◌, true, false, List, [], ◌∷◌, ◌++◌, length, map, drop, get_or, slice_set, replicate, All, Option, None, is_some, rules, refl, sym, ap, subst, ◌∙◌, arith, append_assoc}
-use Rattle.std.specs.Io.KnownBytes.{Appends}
+use Rattle.std.proofs.Common.{◌≡◌, ◌≢◌, ⊎_elim, ℕ, ◌+◌, ◌-◌, ◌<◌, ◌≤◌, true, List, [], ◌++◌, length, drop, get_or, slice_set, replicate, All, Option, rules, refl, sym, ap, subst, ◌∙◌, arith}
 use Rattle.std.proofs.lemmas.Bool.Decides.{eqb_tells, leb_tells}
 use Rattle.std.proofs.lemmas.List.{get_or-replicate, length-replicate, get_or-map, drop_more, drop_all, length-map}
 use Rattle.std.proofs.lemmas.List.Elements.{All-get_or}
 use Rattle.ep_base.specs.Configuration.{Settings}
 use Rattle.ep_base.specs.Kernel.{Scripted}
-use Rattle.ep_lanes.specs.Lanes.{LaneHeld, Held, no_lane, new_lane, lane_of, is_live, has_open, count_of, new_lanes}
+use Rattle.ep_lanes.specs.Lanes.{LaneHeld, Held, no_lane, new_lane, lane_of, count_of, new_lanes}
 use Rattle.ep_lanes.proofs.Numbering.{placed, past_all}
-use Rattle.law_turns.specs.LaneText.{Job, Going, opens}
-use Rattle.law_turns.specs.WholeRun.{opening_lanes, opening_text, opened_run}
+use Rattle.law_turns.specs.LaneText.{opens}
+use Rattle.law_turns.specs.WholeRun.{opening_text, opened_run}
 use Rattle.law_turns.proofs.Owning.{opening_going}
-use Rattle.lane_report.specs.Reports.{IsNewWork, LanesOpened}
-use Rattle.lane_report.specs.Shows.{ReportState, ShowsLane, Shows, FitsLane, Fits}
+use Rattle.lane_report.specs.Reports.{IsNewWork}
+use Rattle.lane_report.specs.Shows.{ShowsLane, Shows, FitsLane, Fits}
 use Rattle.lane_report.specs.Works.{LaneWork, no_work, work_of, jobs_of, all_jobs}
 use Rattle.lane_report.specs.Written.{with_text}
 use Rattle.lane_report.proofs.Numbering.{work_past, item_is, work_here, work_elsewhere, jobs_by_number}

@@ -1,6 +1,5 @@
 -- From opened lanes and their turns to the report.
 use Rattle.std.proofs.Common.{◌≡◌, ℕ, ◌+◌, ◌≤◌, Bool, List, length, All, Option, refl, sym, subst, ◌∙◌, arith}
-use Rattle.std.specs.Io.KnownBytes.{Appends}
 use Rattle.ep_base.specs.Configuration.{Settings}
 use Rattle.ep_base.specs.Io.{AppendsPrefix}
 use Rattle.ep_base.specs.Kernel.{Scripted}
@@ -9,11 +8,11 @@ use Rattle.ep_lanes.specs.Probing.{ProbeAnswers}
 use Rattle.law_turns.specs.Ending.{HasEnded}
 use Rattle.law_turns.specs.Growing.{most_exchanges}
 use Rattle.law_turns.specs.LaneText.{Job}
-use Rattle.law_turns.specs.WholeRun.{ProbeSteps, opening_text, opened_run, run_after}
+use Rattle.law_turns.specs.WholeRun.{ProbeSteps, opening_text, run_after}
 use Rattle.law_turns.proofs.Growing.{texts_grow_law, runs_end_in_most_law}
 use Rattle.lane_report.specs.Made.{ShownRun, TurnsMade, TurnsCut}
-use Rattle.lane_report.specs.Reports.{HasRun, IsNewWork, LanesOpened, Reports, ReportsPart}
-use Rattle.lane_report.specs.Shows.{ReportState, Shows, Tells}
+use Rattle.lane_report.specs.Reports.{IsNewWork, LanesOpened, Reports, ReportsPart}
+use Rattle.lane_report.specs.Shows.{ReportState, Tells}
 use Rattle.lane_report.specs.Works.{LaneWork, all_jobs}
 use Rattle.lane_report.proofs.Appending.{prefix_front, wrote_since}
 use Rattle.lane_report.proofs.Few.{all_short, all_count}

@@ -1,27 +1,24 @@
 -- Runs that are shown, turn by turn, and their ends.
-use Rattle.std.proofs.Common.{◌≡◌, ℕ, zero, suc, ◌+◌, ◌-◌, ◌<◌, ◌≤◌, Bool, true, false, List, [], ◌∷◌, ◌++◌, length, refl, sym, ap, subst, ◌∙◌, arith, Option, Some, None, is_some}
-use Rattle.std.specs.Io.KnownBytes.{Appends}
+use Rattle.std.proofs.Common.{◌≡◌, ℕ, suc, ◌+◌, ◌-◌, ◌<◌, ◌≤◌, Bool, List, length, refl, sym, ap, subst, ◌∙◌, arith, Option, Some, None, is_some}
 use Rattle.ep_base.specs.Configuration.{Settings}
 use Rattle.ep_base.specs.Io.{AppendsPrefix}
 use Rattle.ep_base.specs.Kernel.{Scripted}
 use Rattle.ep_base.specs.Lanes.{times}
-use Rattle.ep_lanes.specs.Lanes.{LaneHeld, Held, lane_of, is_live, count_of, next_of, lane_in, next_lane}
+use Rattle.ep_lanes.specs.Lanes.{LaneHeld, lane_of, is_live, count_of, next_of, lane_in, next_lane}
 use Rattle.ep_lanes.specs.Probing.{ProbeAnswers}
 use Rattle.ep_lanes.proofs.Ordering.{same_turn}
 use Rattle.law_turns.specs.Ending.{HasEnded}
 use Rattle.law_turns.specs.Growing.{most_exchanges, most_of_one}
-use Rattle.law_turns.specs.LaneText.{Job, Going}
+use Rattle.law_turns.specs.LaneText.{Going}
 use Rattle.law_turns.specs.Order.{Order, next_turn}
 use Rattle.law_turns.specs.WholeRun.{ProbeSteps, Run, run_step, opened_run, run_after}
 use Rattle.law_turns.specs.WholeRun as runs
 use Rattle.law_turns.proofs.Growing.{texts_grow_law, runs_end_in_most_law}
 use Rattle.law_turns.proofs.Stepping.{times_end}
-use Rattle.lane_report.specs.Made.{ShownRun, EndShown, EndCut, TurnsMade, TurnsCut}
-use Rattle.lane_report.specs.Reports.{HasRun}
-use Rattle.lane_report.specs.Shows.{ReportState, ShowsLane, ShowsGoing, Shows, Tells}
+use Rattle.lane_report.specs.Made.{ShownRun, EndCut, TurnsMade, TurnsCut}
+use Rattle.lane_report.specs.Shows.{ReportState, ShowsLane, Shows, Tells}
 use Rattle.lane_report.specs.Turned.{TurnCut, TurnTaken}
 use Rattle.lane_report.specs.Works.{LaneWork}
-use Rattle.lane_report.specs.Written.{with_text}
 use Rattle.lane_report.proofs.Appending.{prefix_front}
 
 -- the number that the code has

@@ -14,7 +14,8 @@ use Rattle.lane_report.specs.Shows.{ReportState, Shows, Tells}
 use Rattle.lane_report.specs.Works.{LaneWork, all_jobs}
 
 -- A run is over after some count of exchanges; this is its text then, and this the probe's state (this project's own).
-pub record HasRun {P : Type 0} (traced : Bool) (steps : ProbeSteps P) (fsdi : ℕ) (turns : List ℕ) (p : P) (lanes : List (List Job)) (text : List ℕ) (q : P) : Type 0 where
+pub record HasRun {P : Type 0} (traced : Bool) (steps : ProbeSteps P) (fsdi : ℕ) (turns : List ℕ) (p : P) (lanes : List (List Job))
+    (text : List ℕ) (q : P) : Type 0 where
   pub exchanges : ℕ
   pub over : HasEnded (length lanes) (run_after traced steps fsdi turns p lanes exchanges)
   pub text_is : text ≡ (run_after traced steps fsdi turns p lanes exchanges).text
@@ -48,7 +49,8 @@ Reports {P} answers settings traced fsdi turns before after =
     × HasRun traced steps fsdi turns before.probe (all_jobs settings before.works) text after.probe × Appends before.written after.written text
 
 -- It was cut short: a first part of that text was appended (this project's own).
-abbrev pub ReportsPart : {P : Type 0} → ProbeAnswers P → Settings → Bool → ℕ → List ℕ → (before : ReportState P) → Option (List ℕ) → Type 0
+abbrev pub ReportsPart : {P : Type 0} → ProbeAnswers P → Settings → Bool → ℕ → List ℕ → (before : ReportState P) → Option (List ℕ)
+    → Type 0
 ReportsPart {P} answers settings traced fsdi turns before written =
     (steps : ProbeSteps P) → Tells answers steps → (text : List ℕ) × (q : P)
     × HasRun traced steps fsdi turns before.probe (all_jobs settings before.works) text q × AppendsPrefix before.written written text

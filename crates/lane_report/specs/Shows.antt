@@ -52,7 +52,8 @@ pub record ReportState (P : Type 0) : Type 0 where
 
 -- They show a run whose text was written since this start: each lane shows the run's lane with its number, and all else is the run's (this project's
 -- own).
-pub record Shows {P : Type 0} (settings : Settings) (fsdi : ℕ) (start : Option (List ℕ)) (s : ReportState P) (run : Run P) : Type 0 where
+pub record Shows {P : Type 0} (settings : Settings) (fsdi : ℕ) (start : Option (List ℕ)) (s : ReportState P) (run : Run P)
+    : Type 0 where
   pub each : (lane : ℕ) → ShowsLane settings fsdi (lane_of s.lanes lane) (work_of s.works lane) (run.lanes lane)
   pub order : s.lanes.order ≡ run.order
   pub probe : s.probe ≡ run.probe

@@ -36,19 +36,21 @@ pub record IsAfter (settings : Settings) (fsdi : ℕ) (held : LaneHeld Scripted)
   pub left : jobs_of settings work ≡ g.left
 
 -- A lane wrote a piece, and shows the lane after it (this project's own).
-pub record Wrote (settings : Settings) (fsdi : ℕ) (held : LaneHeld Scripted) (work : LaneWork) (before after : Option (List ℕ)) (piece : Piece) : Type 0 where
+pub record Wrote (settings : Settings) (fsdi : ℕ) (held : LaneHeld Scripted) (work : LaneWork) (before after : Option (List ℕ)) (piece : Piece)
+    : Type 0 where
   pub text : Appends before after piece.text
   pub shows : ShowsLane settings fsdi held work piece.going
 
 -- After an exchange of a transaction, what follows was written (this project's own).
-abbrev pub GoesOn : Settings → (fsdi lane : ℕ) → (held : LaneHeld Scripted) (work : LaneWork) → Turned → (held_then : LaneHeld Scripted) (work_then : LaneWork)
-    → (before after : Option (List ℕ)) → Type 0
+abbrev pub GoesOn : Settings → (fsdi lane : ℕ) → (held : LaneHeld Scripted) (work : LaneWork) → Turned
+    → (held_then : LaneHeld Scripted) (work_then : LaneWork) → (before after : Option (List ℕ)) → Type 0
 GoesOn settings fsdi lane held work turned held_then work_then before after =
     (g : Going) (l : Lane) → IsAfter settings fsdi held work turned g l →
     Wrote settings fsdi held_then work_then before after (goes_on fsdi lane g l (asked_by fsdi l.standing.doing))
 
 -- A first part of it was written (this project's own).
-abbrev pub GoesOnPart : Settings → (fsdi lane : ℕ) → (held : LaneHeld Scripted) (work : LaneWork) → Turned → (before after : Option (List ℕ)) → Type 0
+abbrev pub GoesOnPart : Settings → (fsdi lane : ℕ) → (held : LaneHeld Scripted) (work : LaneWork) → Turned
+    → (before after : Option (List ℕ)) → Type 0
 GoesOnPart settings fsdi lane held work turned before after =
     (g : Going) (l : Lane) → IsAfter settings fsdi held work turned g l →
     AppendsPrefix before after (goes_on fsdi lane g l (asked_by fsdi l.standing.doing)).text
@@ -70,9 +72,10 @@ pub record LaneState (P : Type 0) : Type 0 where
   pub written : Option (List ℕ)
 
 -- A lane wrote the piece of its turn, and the probe went on (this project's own).
-pub record TurnWrote {P : Type 0} (settings : Settings) (traced : Bool) (steps : ProbeSteps P) (fsdi lane : ℕ) (before after : LaneState P) (g : Going)
-    (ask : Asked) : Type 0 where
-  pub wrote : Wrote settings fsdi after.held after.work before.written after.written (turn_piece traced fsdi lane g ask (heard_by steps before.probe lane g ask).1)
+pub record TurnWrote {P : Type 0} (settings : Settings) (traced : Bool) (steps : ProbeSteps P) (fsdi lane : ℕ) (before after : LaneState P)
+    (g : Going) (ask : Asked) : Type 0 where
+  pub wrote : Wrote settings fsdi after.held after.work before.written after.written
+      (turn_piece traced fsdi lane g ask (heard_by steps before.probe lane g ask).1)
   pub probe : after.probe ≡ (heard_by steps before.probe lane g ask).0
 
 -- So it is for whatever the lane showed, where the probe has these steps (this project's own).

@@ -4,6 +4,8 @@
 
 mod opening;
 mod run;
+#[cfg(test)]
+mod tests;
 mod turning;
 mod works;
 mod writing;

@@ -17,10 +17,10 @@ use ep_lanes::{EventList, Lanes, Turned};
 use pre_processing::prepare;
 use scenario::{Job, Scripts};
 
-/// Begins a transaction of a lane and writes its events so far, and its log where nothing is asked. It says whether an
-/// exchange is asked.
-///
-/// Errors: the sink failed; a first part of this was written.
+// Begins a transaction of a lane and writes its events so far, and its log where nothing is asked. It says whether an
+// exchange is asked.
+//
+// Errors: the sink failed; a first part of this was written.
 fn begin_one<K: Sink>(
     lane: u8,
     lanes: &mut Lanes<Scripts>,

@@ -20,9 +20,11 @@ use scenario::Scripts;
 // The most exchanges of at most 8 lanes of at most 64 transactions, each of at most 16 Combinations, 4 scripts and 64 steps.
 const MOST_EXCHANGES: u64 = 6_928_361_472;
 
-/// The report of several lanes as they run, which are new and have their transactions before them: first the lanes are opened in
-/// rising order, and then each turn makes one exchange of one lane, until no lane has one left. The trace line of each
-/// exchange is written where `traced`. The reader's frame size code is at most 8. Nothing here takes memory.
+/// The report of at most 8 lanes as they run: first the lanes are opened in rising order, and then each turn makes one
+/// exchange of one lane, until no lane has one left. Where `traced`, the trace line of each exchange comes before its events.
+///
+/// The lanes are new, and what each has to do are at most 64 transactions within this project's limits; the reader's frame
+/// size code is at most 8. Nothing here takes memory.
 ///
 /// Errors: the sink has failed; a first part of the report was written.
 pub fn report_lanes<K: Sink, P: Probe>(

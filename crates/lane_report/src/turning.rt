@@ -22,7 +22,7 @@ use ep_base::{Sink, SinkFailed};
 use ep_lanes::{EventList, Lanes, Probe, Turned};
 use scenario::Scripts;
 
-/// Makes the next exchange, which is one of this lane, over the field of its open transaction. A field never fails.
+// Makes the next exchange, which is one of this lane, over the field of its open transaction. A field never fails.
 fn hear_next<P: Probe>(
     lane: u8,
     lanes: &mut Lanes<Scripts>,
@@ -56,9 +56,9 @@ fn hear_next<P: Probe>(
     turned
 }
 
-/// Writes the log of a transaction that ended, and opens the lane's next one.
-///
-/// Errors: the sink failed; a first part of the lines was written.
+// Writes the log of a transaction that ended, and opens the lane's next one.
+//
+// Errors: the sink failed; a first part of the lines was written.
 fn close_and_next<K: Sink>(
     lane: u8,
     lanes: &mut Lanes<Scripts>,
@@ -92,9 +92,9 @@ fn close_and_next<K: Sink>(
     }
 }
 
-/// After an exchange: the lane waits for its next one, or its transaction has ended, and the next one is opened.
-///
-/// Errors: the sink failed; a first part of the lines was written.
+// After an exchange: the lane waits for its next one, or its transaction has ended, and the next one is opened.
+//
+// Errors: the sink failed; a first part of the lines was written.
 fn go_on<K: Sink>(
     lane: u8,
     lanes: &mut Lanes<Scripts>,
@@ -124,9 +124,9 @@ fn go_on<K: Sink>(
     }
 }
 
-/// The turn of this lane, with what it has to do.
-///
-/// Errors: the sink failed; a first part of the lines was written.
+// The turn of this lane, with what it has to do.
+//
+// Errors: the sink failed; a first part of the lines was written.
 fn turn_lane<K: Sink, P: Probe>(
     lane: u8,
     lanes: &mut Lanes<Scripts>,
@@ -195,7 +195,5 @@ pub(crate) fn take_turn<K: Sink, P: Probe>(
     ensures length { length works.new ≡ length works.old }
 {
     let work = &mut works[usize::from(lane) - 1];
-    turn_lane(
-        lane, lanes, config, fsdi, traced, work, output, probe,
-    )
+    turn_lane(lane, lanes, config, fsdi, traced, work, output, probe)
 }

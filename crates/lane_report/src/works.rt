@@ -58,7 +58,6 @@ impl LaneJobs {
         ensures next { IfSome result (λ job. (self.old.left ≡ job ∷ self.new.left) × (self.new.txn ≡ self.old.txn + 1)) }
         ensures none { IsNone result → (self.old.left ≡ []) × (self.new ≡ self.old) }
         ensures field { self.new.field ≡ self.old.field }
-        ensures few { self.new.txn ≤ 64 }
     {
         let job = self.left.pop()?;
         self.txn += 1;

@@ -1,4 +1,4 @@
-use Rattle.std.proofs.Common.{arith, ◌≡◌, ◌<◌, ◌≤◌, ◌∙◌, length, sym, None}
+use Rattle.std.proofs.Common.{arith, ◌≡◌, ◌<◌, ◌∙◌, sym, None}
 use Rattle.law_turns.specs.Growing.{most_exchanges}
 use Rattle.ep_lanes.specs.Lanes.{next_lane}
 use Rattle.lane_report.specs.Shows.{held_of}
