@@ -1,6 +1,6 @@
 -- The transactions of an accepted document may begin; they have courses, all of which give one text.
-use Rattle.std.proofs.Common.{◌≡◌, ℕ, ◌+◌, ◌<◌, ◌≤◌, ◌==◌, ◌*◌, List, [], ◌∷◌, ◌++◌, length, map, filter, Option, Ok, refl, ap, ◌∙◌, sym, subst, arith}
-use Rattle.std.specs.Prelude.{All, count_by, true}
+use Rattle.std.proofs.Common.{◌≡◌, ℕ, ◌+◌, ◌<◌, ◌≤◌, ◌==◌, ◌*◌, List, [], ◌∷◌, ◌++◌, length, map, filter, Option, Result, Ok, refl, ap, ◌∙◌, sym, subst, arith}
+use Rattle.std.specs.Prelude.{All, true}
 use Rattle.std.proofs.lemmas.List.{length-map}
 use Rattle.std.proofs.lemmas.List.Sums.{length-filter}
 use Rattle.std.proofs.lemmas.List.Elements.{All-head, All-tail, All-weaker, All-map}
@@ -9,18 +9,22 @@ use Rattle.ep_base.specs.Field.{Field}
 use Rattle.ep_base.specs.Kernel.{steps_left}
 use Rattle.ep_base.specs.PreProcessing.{prepared_one, prepared}
 use Rattle.ep_base.specs.Radio.{Radio}
-use Rattle.ep_base.specs.Talk.{Result}
+use Rattle.ep_base.specs.Talk.{Result as Heard}
 use Rattle.ep_base.specs.TransportRun.{HearEnd, said_for}
 use Rattle.ep_base.specs.WrittenText.{transaction_text}
+use Rattle.toml.specs.Data.{Members}
+use Rattle.doc_table.specs.Fault.{Fault}
+use Rattle.doc_table.specs.Read.{◌>>=◌}
 use Rattle.law_radio.proofs.Alongside.{one_course_law}
 use Rattle.law_radio.proofs.Finding.{new_field_law}
 use Rattle.card_table.specs.Placing.{placed_from}
 use Rattle.entry_session.proofs.Air.{some_course}
 use Rattle.scenario.specs.Accepted.{IsLawful, IsLane, IsAccepted}
+use Rattle.scenario.specs.Document.{Says}
 use Rattle.scenario.specs.Plan.{Transaction, Plan}
 use Rattle.scenario.specs.Scene.{Work, Scene, room_of, work_of, scene_of}
-use Rattle.ep_program.specs.Headline.{preparation, radio_before, talk_in, WorkCourse, purchase_text, LaneCourses, purchases_text, AllCourses, lanes_text, SceneCourses, scene_text, PlanCourses, text_of, IsFresh, IsReady}
-use Rattle.ep_program.specs.Lines.{AppendsEach, AppendsPartOfEach}
+use Rattle.ep_program.specs.Built.{built, runnable}
+use Rattle.ep_program.specs.Headline.{preparation, radio_before, talk_in, WorkCourse, purchase_text, LaneCourses, purchases_text, AllCourses, lanes_text, PlanCourses, text_of, IsFresh, IsReady}
 use Rattle.ep_program.specs.Serve.{Gives, Opens, HasText, Serves, Reports}
 use Rattle.ep_program.specs.declared.status.Status.{Status}
 use Rattle.ep_program.specs.declared.status.Status.TheVariants.{Done, ReadFault, WriteFault, NoMemory, Usage, TooLong, NotToml, BadDocument}
@@ -87,7 +91,7 @@ module _ (settings : Settings) (fsdi : ℕ) where
   )
 
   -- A course's text is that of what was heard, what ended it, and the radio then.
-  abbrev heard_text : (lane txn : ℕ) (w : Work) → List Result → HearEnd → Radio Field → List ℕ
+  abbrev heard_text : (lane txn : ℕ) (w : Work) → List Heard → HearEnd → Radio Field → List ℕ
   heard_text lane txn w heard ending after = transaction_text lane txn (said_for (talk_in settings w) heard ending) after.medium.log
 
   purchase_one : (lane txn : ℕ) (w : Work) (c d : WorkCourse settings fsdi w) → purchase_text settings fsdi lane txn w c ≡ purchase_text settings fsdi lane txn w d
@@ -127,11 +131,24 @@ of_plan input before after p gives accepted TooLong r = absurd r
 of_plan input before after p gives accepted NotToml r = absurd r
 of_plan input before after p gives accepted (BadDocument f) r = absurd r
 
+-- What a document's plan is followed by, before it is run.
+abbrev then_built : Result Plan Fault → Result Plan Fault
+then_built r = r >>= (λ p. built (scene_of p) >>= (λ (_ : Scene). Ok p))
+
+of_scene : (p : Plan) (s : Scene) → s ≡ scene_of p → built s ≡ Ok s → then_built (Ok p) ≡ Ok p
+of_scene p s is e =
+    subst (λ (t : Scene). (built t >>= (λ (_ : Scene). Ok p)) ≡ Ok p) is
+    (subst (λ (r : Result Scene Fault). (r >>= (λ (_ : Scene). Ok p)) ≡ Ok p) (sym e) refl)
+
+-- A document whose scene is run has a plan that is run.
+runs_so : (ms : Members) (s : Scene) (says : Says ms s) → built s ≡ Ok s → runnable ms ≡ Ok says.document
+runs_so ms s says e = subst (λ (r : Result Plan Fault). then_built r ≡ Ok says.document) (sym says.reads) (of_scene says.document s says.scene e)
+
 -- A scene that was read and run is served.
 pub served : (input before after : Option (List ℕ)) (s : Scene) → Opens input s → (status : Status) → Reports s before after status → Serves true input before after status
 served input before after s opens status r =
     let says = opens.1 in
-    of_plan input before after says.document (opens.0, says.reads, opens.2) says.accepted status
+    of_plan input before after says.document (opens.0, runs_so opens.0 s says opens.2, opens.3) says.accepted status
     (subst (λ (t : Scene). Reports t before after status) says.scene r)
 
 pub opened_ready : (input : Option (List ℕ)) (s : Scene) → Opens input s → IsReady s

@@ -5,20 +5,21 @@ use Rattle.std.specs.Io.KnownBytes.{Appends, Keeps}
 use Rattle.toml.specs.Data.{Members}
 use Rattle.ep_base.specs.Io.{AppendsPrefix}
 use Rattle.scenario.specs.Document.{IsDocument, Says}
-use Rattle.scenario.specs.Plan.{Plan, plan}
+use Rattle.scenario.specs.Plan.{Plan}
 use Rattle.scenario.specs.Scene.{Scene}
+use Rattle.ep_program.specs.Built.{built, runnable}
 use Rattle.ep_program.specs.Headline.{PlanCourses, scene_text, text_of}
 use Rattle.ep_program.specs.Lines.{AppendsEach, AppendsPartOfEach}
 use Rattle.ep_program.specs.declared.status.Status.{Status}
 use Rattle.ep_program.specs.declared.status.Status.TheVariants.{Done, ReadFault, WriteFault, NoMemory, Usage, TooLong, NotToml, BadDocument}
 
--- The input, where its bytes are told, is a document with this plan (this project's own).
+-- The input, where its bytes are told, is a document that is run, and this is its plan (this project's own).
 abbrev pub Gives : Option (List ℕ) → Plan → Type 0
-Gives input p = (members : Members) × (plan members ≡ Ok p) × IfSome input (λ bytes. IsDocument bytes members)
+Gives input p = (members : Members) × (runnable members ≡ Ok p) × IfSome input (λ bytes. IsDocument bytes members)
 
--- The input, where its bytes are told, is an accepted document that says this scene (this project's own).
+-- The input, where its bytes are told, is an accepted document that says this scene, which is run (this project's own).
 abbrev pub Opens : Option (List ℕ) → Scene → Type 0
-Opens input s = (members : Members) × Says members s × IfSome input (λ bytes. IsDocument bytes members)
+Opens input s = (members : Members) × Says members s × (built s ≡ Ok s) × IfSome input (λ bytes. IsDocument bytes members)
 
 -- The input gives no plan, for this reason (this project's own).
 abbrev pub Refuses : Option (List ℕ) → Status → Type 0
@@ -29,7 +30,7 @@ Refuses input NoMemory = ⊤
 Refuses input Usage = ⊥
 Refuses input TooLong = IfSome input (λ bytes. 1048576 < length bytes)
 Refuses input NotToml = IfSome input (λ bytes. (members : Members) → IsDocument bytes members → ⊥)
-Refuses input (BadDocument f) = (members : Members) × (plan members ≡ Err f) × IfSome input (λ bytes. IsDocument bytes members)
+Refuses input (BadDocument f) = (members : Members) × (runnable members ≡ Err f) × IfSome input (λ bytes. IsDocument bytes members)
 
 -- The transactions of a document have courses, all of which give one text (this project's own).
 pub record HasText (p : Plan) (text : List ℕ) : Type 0 where

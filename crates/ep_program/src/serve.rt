@@ -2,14 +2,17 @@
 ghost use Rattle.std.specs.Prelude.{◌≡◌, IfOk, IfErr, IsErrOf, OnOk};
 ghost use Rattle.std.specs.Io.KnownBytes.{IsAtEnd};
 ghost use Rattle.ep_base.specs.Causes.{HasCause};
+ghost use Rattle.doc_table.specs.Read.{Gives};
+ghost use Rattle.ep_program.specs.Built.{built};
 ghost use Rattle.ep_program.specs.Headline.{IsReady, is_run};
 ghost use Rattle.ep_program.specs.Serve.{Opens, Refuses, Serves, Reports};
 
 use crate::report::report_lanes;
 use crate::status::Status;
+use doc_table::Path;
 use entry_session::Session;
 use ep_base::{NoMemory, ReadEnd, Sink, Source, read_all};
-use scenario::{DocEnd, Scenario};
+use scenario::{DocEnd, DocFault, DocKind, Scenario};
 use std::alloc::Global;
 
 /// The most bytes of an input.
@@ -25,6 +28,24 @@ fn is_run(words: &[String]) -> bool
     }
 }
 
+// Nothing where a scenario has one lane, no turn list and no trace: no other one is run yet.
+fn built(scenario: &Scenario) -> Result<(), DocFault>
+    ensures { Gives (λ _. scenario.now) result (built scenario.now) }
+{
+    let root = Path::root();
+    let lanes = scenario.lanes.len();
+    if lanes != 1 {
+        return Err(root.key("lanes").fault(DocKind::NotBuilt, lanes as i64));
+    }
+    if !scenario.turns.is_empty() {
+        return Err(root.key("turns").fault(DocKind::NotBuilt, 0));
+    }
+    if scenario.trace.is_some() {
+        return Err(root.key("trace").fault(DocKind::NotBuilt, 0));
+    }
+    Ok(())
+}
+
 // All that comes in, and what it says.
 fn read<S: Source>(alloc: Global, input: &mut S) -> Result<Scenario, Status>
     ensures ok { IfOk result (Opens (S.left input.old)) }
@@ -34,7 +55,10 @@ fn read<S: Source>(alloc: Global, input: &mut S) -> Result<Scenario, Status>
 {
     match read_all(alloc, input, LIMIT) {
         Ok(bytes) => match Scenario::of_bytes(alloc, &bytes) {
-            Ok(scenario) => Ok(scenario),
+            Ok(scenario) => match built(&scenario) {
+                Ok(()) => Ok(scenario),
+                Err(fault) => Err(Status::BadDocument(fault)),
+            },
             Err(DocEnd::NotToml) => Err(Status::NotToml),
             Err(DocEnd::Fault(fault)) => Err(Status::BadDocument(fault)),
             Err(DocEnd::NoMemory) => Err(Status::NoMemory),
@@ -61,6 +85,8 @@ fn read<S: Source>(alloc: Global, input: &mut S) -> Result<Scenario, Status>
 /// - A card is never found to break the rules of the link, and no device fails.
 ///
 /// A sink that fails leaves a first part of that text, with `WriteFault`.
+///
+/// A document is run so far that has one lane, no turn list and no trace; what another one has more is told as not built.
 ///
 /// Each status has its reason: `Usage` the words, `BadDocument` the document's first fault, `NotToml` and `TooLong` the
 /// input; `ReadFault` and `WriteFault` come only where a count of faults rose, and `NoMemory` may come for every document.
@@ -94,6 +120,7 @@ fn run<K: Sink>(alloc: Global, scenario: Scenario, output: &mut K) -> Status
         config,
         fsdi,
         lanes,
+        ..
     } = scenario;
     let mut session = match Session::open(alloc) {
         Ok(session) => session,

@@ -32,6 +32,21 @@ fn documents_that_are_refused(rt: HostRuntime) -> Result<(), Fail> {
             "version = 1\nturns = [1]",
             "ep_program: bad document: not-built at turns (0)",
         ),
+        (
+            "version = 1",
+            "version = 1\nturns = [2]",
+            "ep_program: bad document: bad-value at turns[1] (2)",
+        ),
+        (
+            "version = 1",
+            "version = 1\ntrace = []",
+            "ep_program: bad document: not-built at trace (0)",
+        ),
+        (
+            "[[lanes]]\n",
+            "[[lanes]]\ntransactions = [{type = 0, amount = 0}]\n[[lanes]]\n",
+            "ep_program: bad document: not-built at lanes (2)",
+        ),
     ];
     let text = purchase(&rt, NAME)?;
     for (part, other, said) in rows {
