@@ -107,11 +107,10 @@ fn lanes(rt: HostRuntime) -> Result<(), Fail> {
         ),
     ];
     check_faults(&rt, "", DOCUMENT, &rows)?;
-    let wanted = [(9, "lanes", 9), (10, "lanes", 10), (100, "lanes", 100)];
-    for (count, path, number) in wanted {
+    for (count, number) in [(9, 9), (10, 10), (100, 100)] {
         let lanes = array(&rt, "{}", count)?;
         let document = format!(in rt.alloc(); "version = 1\nlanes = {lanes}")?;
-        check_refused(&rt, document.as_str(), (TooMany, path, number));
+        check_refused(&rt, document.as_str(), (TooMany, "lanes", number));
     }
     Ok(())
 }
