@@ -12,7 +12,9 @@ mod rounds;
 mod rule;
 mod script;
 mod step;
+mod trace;
 mod transaction;
+mod turns;
 mod values;
 
 use scenario::{DocEnd, DocKind, Scenario};
@@ -73,6 +75,9 @@ kernel = 3
 steps = [{send = "80ae8000"}]
 outcome = "approved 03"
 "#;
+
+/// A lane with one transaction.
+const LANE: &str = "{transactions = [{type = 0, amount = 0}]}";
 
 /// The document with another text for one part.
 fn changed(rt: &(impl Abort + AllocGlobal), part: &str, text: &str) -> Result<String, Fail> {

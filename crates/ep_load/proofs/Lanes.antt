@@ -6,9 +6,10 @@ use Rattle.std.proofs.lemmas.List.Elements.{All-cons, All-nil, All-append}
 use Rattle.std.proofs.lemmas.Bool.Decides.{eqb_tells}
 use Rattle.scenario.specs.Accepted.{IsLawful, IsLane, IsAccepted}
 use Rattle.scenario.specs.Plan.{Transaction}
+use Rattle.scenario.specs.Turns.{AreTurns}
 use Rattle.ep_load.specs.Draws.{draws}
 use Rattle.ep_load.specs.Load.{transaction_drawn, lane_of, lanes_with, filled, generated}
-use Rattle.ep_load.proofs.Choices.{are_draws}
+use Rattle.ep_load.proofs.Choices.{are_draws, of_none}
 use Rattle.ep_load.proofs.Purchases.{is_lawful}
 use Rattle.ep_load.proofs.Settings.{are_terms}
 
@@ -96,6 +97,9 @@ lane_is count k lane few here f = record {
   lawful = f.lawful;
 }
 
+no_turns : (lanes : ℕ) → AreTurns lanes []
+no_turns lanes = record { few = omega arith; known = All-nil (λ n. (1 ≤ n) × (n ≤ lanes)) }
+
 -- A load is accepted.
 pub is_accepted : (seed count : ℕ) → 1 ≤ count → count ≤ 400 → IsAccepted (generated seed count)
 is_accepted seed count some few =
@@ -106,6 +110,8 @@ is_accepted seed count some few =
       some = omega (arith, f.count, some);
       few = omega (arith, f.count);
       lanes = λ k d lt. lane_is count k _ few (omega (arith, lt, f.count)) (f.each k d lt);
+      turns = no_turns _;
+      trace = of_none _;
     }
 
 -- One more transaction, drawn and appended, in place of the first of those that are left.

@@ -1,5 +1,5 @@
 -- The transactions of a load, on their lanes (this project's own).
-use Rattle.std.specs.Prelude.{ℕ, zero, suc, ◌+◌, ◌-◌, ◌%◌, min, List, [], ◌∷◌, ◌++◌, slice_index_or, slice_set, replicate}
+use Rattle.std.specs.Prelude.{ℕ, zero, suc, ◌+◌, ◌-◌, ◌%◌, min, List, [], ◌∷◌, ◌++◌, slice_index_or, slice_set, replicate, None}
 use Rattle.scenario.specs.Plan.{Transaction, Plan}
 use Rattle.ep_load.specs.Cards.{card_drawn}
 use Rattle.ep_load.specs.Draws.{Draws, draws}
@@ -31,6 +31,12 @@ unfoldable pub filled : ℕ → ℕ → ℕ → List (List Transaction) → List
 filled zero i x lanes = lanes
 filled (suc n) i x lanes = filled n (i + 1) (draws x).1 (lanes_with (lane_of i) (transaction_drawn i (draws x).0) lanes)
 
--- The load of this seed with so many transactions, on at most eight lanes (this project's own).
+-- The load of this seed with so many transactions, on at most eight lanes, with no turn list and no trace (this project's own).
 abbrev pub generated : ℕ → ℕ → Plan
-generated seed count = record { config = terms; fsdi = 8; lanes = filled count 1 seed (replicate (min count 8) []) }
+generated seed count = record {
+  config = terms;
+  fsdi = 8;
+  turns = [];
+  lanes = filled count 1 seed (replicate (min count 8) []);
+  trace = None;
+}

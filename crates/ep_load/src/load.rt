@@ -32,7 +32,9 @@ pub(crate) fn plan(alloc: Global, seed: u32, count: u16) -> Result<Document, NoM
     Ok(Document {
         config: terms(alloc)?,
         fsdi: 8,
+        turns: Vec::new(alloc),
         lanes: filled_lanes(alloc, seed, count)?,
+        trace: None,
     })
 }
 

@@ -100,6 +100,8 @@ fn scenario_of_seed_1(rt: HostRuntime) -> Result<(), Fail> {
     let scenario = generate(rt.alloc(), 1, 1)?;
     assert_eq!(rt; (scenario.config.exponent(), scenario.fsdi), (2, 8));
     assert_eq!(rt; scenario.config.list().len(), 3);
+    assert!(rt; scenario.turns.is_empty());
+    assert!(rt; scenario.trace.is_none());
     assert_eq!(rt; scenario.lanes.len(), 1);
     for lane in &scenario.lanes {
         assert_eq!(rt; lane.len(), 1);

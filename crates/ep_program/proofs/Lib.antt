@@ -1,3 +1,2 @@
-pub mod Appending
-pub mod Each
+pub mod Promising
 pub mod Ready

@@ -1,29 +1,37 @@
--- The transactions of an accepted document may begin; they have courses, all of which give one text.
-use Rattle.std.proofs.Common.{◌≡◌, ℕ, ◌+◌, ◌<◌, ◌≤◌, ◌==◌, ◌*◌, List, [], ◌∷◌, ◌++◌, length, map, filter, Option, Ok, refl, ap, ◌∙◌, sym, subst, arith}
-use Rattle.std.specs.Prelude.{All, count_by, true}
+-- The transactions of an accepted document may begin, and a run of them that was written is served.
+use Rattle.std.proofs.Common.{◌≡◌, ℕ, ◌+◌, ◌<◌, ◌≤◌, ◌==◌, ◌*◌, Bool, List, [], ◌∷◌, length, map, filter, refl, ap, ◌∙◌, sym, subst, arith, Some, true}
+use Rattle.std.specs.Prelude.{All, is_some}
+use Rattle.std.specs.declared.option.Option.{Option}
+use Rattle.std.specs.Io.KnownBytes.{Appends}
 use Rattle.std.proofs.lemmas.List.{length-map}
 use Rattle.std.proofs.lemmas.List.Sums.{length-filter}
-use Rattle.std.proofs.lemmas.List.Elements.{All-head, All-tail, All-weaker, All-map}
-use Rattle.ep_base.specs.Configuration.{Combination, Settings, count_of}
-use Rattle.ep_base.specs.Field.{Field}
+use Rattle.std.proofs.lemmas.List.Elements.{All-nil, All-cons, All-head, All-tail, All-weaker, All-map}
+use Rattle.ep_base.specs.Configuration.{Combination, Settings, AreSettings, count_of}
+use Rattle.ep_base.specs.Io.{AppendsPrefix}
 use Rattle.ep_base.specs.Kernel.{steps_left}
 use Rattle.ep_base.specs.PreProcessing.{prepared_one, prepared}
-use Rattle.ep_base.specs.Radio.{Radio}
-use Rattle.ep_base.specs.Talk.{Result}
-use Rattle.ep_base.specs.TransportRun.{HearEnd, said_for}
-use Rattle.ep_base.specs.WrittenText.{transaction_text}
-use Rattle.law_radio.proofs.Alongside.{one_course_law}
 use Rattle.law_radio.proofs.Finding.{new_field_law}
+use Rattle.law_turns.specs.LaneText.{Job}
+use Rattle.law_turns.specs.WholeRun.{ProbeSteps}
 use Rattle.card_table.specs.Placing.{placed_from}
-use Rattle.entry_session.proofs.Air.{some_course}
+use Rattle.ep_lanes.specs.Lanes.{Held, new_lanes}
+use Rattle.ep_lanes.specs.Probing.{ProbeAnswers}
+use Rattle.lane_report.specs.Reports.{HasRun, IsFew, IsNewWork}
+use Rattle.lane_report.specs.Shows.{Tells}
+use Rattle.lane_report.specs.Works.{LaneWork, job_of, new_work, all_jobs, jobs_of}
 use Rattle.scenario.specs.Accepted.{IsLawful, IsLane, IsAccepted}
 use Rattle.scenario.specs.Plan.{Transaction, Plan}
 use Rattle.scenario.specs.Scene.{Work, Scene, room_of, work_of, scene_of}
-use Rattle.ep_program.specs.Headline.{preparation, radio_before, talk_in, WorkCourse, purchase_text, LaneCourses, purchases_text, AllCourses, lanes_text, SceneCourses, scene_text, PlanCourses, text_of, IsFresh, IsReady}
-use Rattle.ep_program.specs.Lines.{AppendsEach, AppendsPartOfEach}
-use Rattle.ep_program.specs.Serve.{Gives, Opens, HasText, Serves, Reports}
+use Rattle.ep_program.specs.Headline.{jobs_in, IsFresh, IsReady}
+use Rattle.ep_program.specs.Promise.{GivesOn, HasPromise}
+use Rattle.ep_program.specs.Serve.{Outside, IsTextOf, Writes, WritesPart, Gives, Opens, Serves, Runs}
+use Rattle.ep_program.specs.Words.{is_traced}
 use Rattle.ep_program.specs.declared.status.Status.{Status}
 use Rattle.ep_program.specs.declared.status.Status.TheVariants.{Done, ReadFault, WriteFault, NoMemory, Usage, TooLong, NotToml, BadDocument}
+use Rattle.ep_program.specs.declared.form.Form.{Form}
+use Rattle.ep_program.proofs.Promising.{MayBegin, may_begin, promised}
+
+-- ---- the transactions of an accepted document may begin
 
 -- Pre-Processing leaves as many Combinations as the configuration has of the type.
 prepared_count : (settings : Settings) (txn_type amount : ℕ) → length (prepared settings txn_type amount) ≡ count_of txn_type settings.list
@@ -43,22 +51,29 @@ room_more a a' b b' n m ea eb en =
 no_more : (n : ℕ) → n + 0 ≡ n
 no_more n = omega arith
 
-is_fresh : (settings : Settings) (fsdi : ℕ) (t : Transaction) → IsLawful t → IsFresh settings fsdi (work_of settings t)
-is_fresh settings fsdi t lawful = record {
-  new = new_field_law (placed_from 1 t.cards) t.presence t.fates (room_of settings t) fsdi lawful.placed lawful.apart lawful.distinct lawful.fates;
-  sends = lawful.scripts.sends;
-  room = room_more _ _ _ _ _ _ (no_more (length t.scripts)) (no_more (steps_left t.scripts)) (prepared_count settings t.txn_type t.amount);
-}
+module _ (settings : Settings) (limits : AreSettings settings) (fsdi : ℕ) where
+  is_fresh : (t : Transaction) → IsLawful t → IsFresh settings fsdi (work_of settings t)
+  is_fresh t lawful = record {
+    new = new_field_law (placed_from 1 t.cards) t.presence t.fates (room_of settings t) fsdi lawful.placed lawful.apart lawful.distinct lawful.fates;
+    few = record {
+      sends = lawful.scripts.sends;
+      rests = refl;
+      scripts = lawful.scripts.few;
+      steps = lawful.scripts.short;
+      combinations = limits.list.of_a_type t.txn_type;
+    };
+    room = room_more _ _ _ _ _ _ (no_more (length t.scripts)) (no_more (steps_left t.scripts)) (prepared_count settings t.txn_type t.amount);
+  }
 
-lane_fresh : (settings : Settings) (fsdi : ℕ) (lane : List Transaction) → IsLane lane → All (IsFresh settings fsdi) (map (work_of settings) lane)
-lane_fresh settings fsdi lane is =
-    All-map (IsFresh settings fsdi) (work_of settings) lane
-    (All-weaker IsLawful (λ t. IsFresh settings fsdi (work_of settings t)) (is_fresh settings fsdi) lane is.lawful)
+  lane_fresh : (lane : List Transaction) → IsLane lane → All (IsFresh settings fsdi) (map (work_of settings) lane)
+  lane_fresh lane is =
+      All-map (IsFresh settings fsdi) (work_of settings) lane
+      (All-weaker IsLawful (λ t. IsFresh settings fsdi (work_of settings t)) is_fresh lane is.lawful)
 
 lane_short : (settings : Settings) (lane : List Transaction) → IsLane lane → length (map (work_of settings) lane) ≤ 64
 lane_short settings lane is = subst (λ n. n ≤ 64) (sym (length-map lane (work_of settings))) is.short
 
-pub is_ready : (p : Plan) → IsAccepted p → IsReady (scene_of p)
+is_ready : (p : Plan) → IsAccepted p → IsReady (scene_of p)
 is_ready p accepted = record {
   code = accepted.fsdi;
   few = subst (λ n. n ≤ 8) (sym (length-map p.lanes (λ lane. map (work_of p.config) lane))) accepted.few;
@@ -67,72 +82,113 @@ is_ready p accepted = record {
       (All-weaker IsLane (λ lane. length (map (work_of p.config) lane) ≤ 64) (lane_short p.config) p.lanes accepted.lanes);
   fresh =
       All-map (All (IsFresh p.config p.fsdi)) (λ lane. map (work_of p.config) lane) p.lanes
-      (All-weaker IsLane (λ lane. All (IsFresh p.config p.fsdi) (map (work_of p.config) lane)) (lane_fresh p.config p.fsdi) p.lanes accepted.lanes);
+      (All-weaker IsLane (λ lane. All (IsFresh p.config p.fsdi) (map (work_of p.config) lane)) (lane_fresh p.config accepted.config p.fsdi) p.lanes accepted.lanes);
 }
-
-module _ (settings : Settings) (fsdi : ℕ) where
-  lane_courses : (ws : List Work) → All (IsFresh settings fsdi) ws → LaneCourses settings fsdi ws
-  lane_courses [] fresh = tt
-  lane_courses (w ∷ ws) fresh =
-      let first = All-head (IsFresh settings fsdi) w ws fresh in (
-        some_course (preparation settings w) w.scripts (radio_before fsdi w) first.new first.sends first.room,
-        lane_courses ws (All-tail (IsFresh settings fsdi) w ws fresh),
-      )
-
-  all_courses : (lanes : List (List Work)) → All (All (IsFresh settings fsdi)) lanes → AllCourses settings fsdi lanes
-  all_courses [] fresh = tt
-  all_courses (ws ∷ rest) fresh = (
-    lane_courses ws (All-head (All (IsFresh settings fsdi)) ws rest fresh),
-    all_courses rest (All-tail (All (IsFresh settings fsdi)) ws rest fresh),
-  )
-
-  -- A course's text is that of what was heard, what ended it, and the radio then.
-  abbrev heard_text : (lane txn : ℕ) (w : Work) → List Result → HearEnd → Radio Field → List ℕ
-  heard_text lane txn w heard ending after = transaction_text lane txn (said_for (talk_in settings w) heard ending) after.medium.log
-
-  purchase_one : (lane txn : ℕ) (w : Work) (c d : WorkCourse settings fsdi w) → purchase_text settings fsdi lane txn w c ≡ purchase_text settings fsdi lane txn w d
-  purchase_one lane txn w c d =
-      let same = one_course_law _ _ (talk_in settings w) (radio_before fsdi w) c d in
-      ap (λ heard. heard_text lane txn w heard c.ending c.after) same.0
-      ∙ ap (λ ending. heard_text lane txn w d.heard ending c.after) same.1
-      ∙ ap (λ after. heard_text lane txn w d.heard d.ending after) same.2
-
-  purchases_one : (lane txn : ℕ) (ws : List Work) (cs ds : LaneCourses settings fsdi ws) → purchases_text settings fsdi lane txn ws cs ≡ purchases_text settings fsdi lane txn ws ds
-  purchases_one lane txn [] cs ds = refl
-  purchases_one lane txn (w ∷ ws) cs ds =
-      ap (λ l. l ++ purchases_text settings fsdi lane (txn + 1) ws cs.1) (purchase_one lane txn w cs.0 ds.0)
-      ∙ ap (λ l. purchase_text settings fsdi lane txn w ds.0 ++ l) (purchases_one lane (txn + 1) ws cs.1 ds.1)
-
-  lanes_one : (lane : ℕ) (lanes : List (List Work)) (cs ds : AllCourses settings fsdi lanes) → lanes_text settings fsdi lane lanes cs ≡ lanes_text settings fsdi lane lanes ds
-  lanes_one lane [] cs ds = refl
-  lanes_one lane (ws ∷ rest) cs ds =
-      ap (λ l. l ++ lanes_text settings fsdi (lane + 1) rest cs.1) (purchases_one lane 1 ws cs.0 ds.0)
-      ∙ ap (λ l. purchases_text settings fsdi lane 1 ws ds.0 ++ l) (lanes_one (lane + 1) rest cs.1 ds.1)
-
--- A course of each transaction of an accepted document.
-courses : (p : Plan) → IsAccepted p → PlanCourses p
-courses p accepted = all_courses p.config p.fsdi (scene_of p).lanes (is_ready p accepted).fresh
-
-has_text : (p : Plan) (cs : PlanCourses p) → HasText p (text_of p cs)
-has_text p cs = record { courses = cs; text_is = refl; only = λ ds. lanes_one p.config p.fsdi 1 (scene_of p).lanes ds cs }
-
-of_plan : (input before after : Option (List ℕ)) (p : Plan) → Gives input p → IsAccepted p → (status : Status) → Reports (scene_of p) before after status
-    → Serves true input before after status
-of_plan input before after p gives accepted Done r = let cs = courses p accepted in (refl, p, gives, text_of p cs, has_text p cs, r cs)
-of_plan input before after p gives accepted ReadFault r = absurd r
-of_plan input before after p gives accepted WriteFault r = let cs = courses p accepted in (refl, p, gives, text_of p cs, has_text p cs, r cs)
-of_plan input before after p gives accepted NoMemory r = (refl, tt, r)
-of_plan input before after p gives accepted Usage r = absurd r
-of_plan input before after p gives accepted TooLong r = absurd r
-of_plan input before after p gives accepted NotToml r = absurd r
-of_plan input before after p gives accepted (BadDocument f) r = absurd r
-
--- A scene that was read and run is served.
-pub served : (input before after : Option (List ℕ)) (s : Scene) → Opens input s → (status : Status) → Reports s before after status → Serves true input before after status
-served input before after s opens status r =
-    let says = opens.1 in
-    of_plan input before after says.document (opens.0, says.reads, opens.2) says.accepted status
-    (subst (λ (t : Scene). Reports t before after status) says.scene r)
 
 pub opened_ready : (input : Option (List ℕ)) (s : Scene) → Opens input s → IsReady s
 opened_ready input s opens = let says = opens.1 in subst IsReady (sym says.scene) (is_ready says.document says.accepted)
+
+-- ---- what lanes have to do before their first transactions
+
+map_twice : {A B C : Type 0} (f : A → B) (g : B → C) (xs : List A) → map (λ x. g (f x)) xs ≡ map g (map f xs)
+map_twice f g [] = refl
+map_twice f g (x ∷ xs) = ap (λ l. g (f x) ∷ l) (map_twice f g xs)
+
+module _ (settings : Settings) (fsdi : ℕ) where
+  abbrev IsShort : List Work → Type 0
+  IsShort lane = length lane ≤ 64
+
+  new_lane_work : (lane : List Work) → IsShort lane → All (IsFresh settings fsdi) lane → IsNewWork settings (new_work lane)
+  new_lane_work lane short fresh = record {
+    none = refl;
+    first = refl;
+    short = short;
+    few = All-weaker (IsFresh settings fsdi) (IsFew settings) (λ w is. is.few) lane fresh;
+  }
+
+  pub new_works : (lanes : List (List Work)) → All IsShort lanes → All (All (IsFresh settings fsdi)) lanes → All (IsNewWork settings) (map new_work lanes)
+  new_works [] short fresh = All-nil (IsNewWork settings)
+  new_works (lane ∷ rest) short fresh =
+      All-cons (IsNewWork settings) (new_work lane) (map new_work rest)
+      (new_lane_work lane (All-head IsShort lane rest short) (All-head (All (IsFresh settings fsdi)) lane rest fresh))
+      (new_works rest (All-tail IsShort lane rest short) (All-tail (All (IsFresh settings fsdi)) lane rest fresh))
+
+-- What is to be done by lanes of this kind, each of which holds a list of transactions.
+module _ {V : Type 0} (items : V → List Work) (settings : Settings) (lanes : List V) (works : List LaneWork) (is : works ≡ map (λ lane. new_work (items lane)) lanes) where
+  pub works_are_new : (fsdi : ℕ) → All (λ lane. length lane ≤ 64) (map items lanes) → All (All (IsFresh settings fsdi)) (map items lanes) → All (IsNewWork settings) works
+  works_are_new fsdi short fresh =
+      subst (All (IsNewWork settings)) (sym (is ∙ map_twice items new_work lanes)) (new_works settings fsdi (map items lanes) short fresh)
+
+  pub jobs_to_come : all_jobs settings works ≡ map (λ lane. map (job_of settings) lane) (map items lanes)
+  jobs_to_come = ap (all_jobs settings) (is ∙ map_twice items new_work lanes) ∙ sym (map_twice new_work (jobs_of settings) (map items lanes))
+
+pub all_map : {A B : Type 0} (f : A → B) (P : B → Type 0) (xs : List A) → All P (map f xs) → All (λ x. P (f x)) xs
+all_map f P [] all = All-nil (λ x. P (f x))
+all_map f P (x ∷ xs) all = All-cons (λ y. P (f y)) x xs (All-head P (f x) (map f xs) all) (all_map f P xs (All-tail P (f x) (map f xs) all))
+
+-- Lanes that were just opened are new for any equal count, with their own turn list.
+pub opened_new : {S : Type 0} (held : Held S) (n m : ℕ) (turns : List ℕ) → held ≡ new_lanes n turns → n ≡ m → held ≡ new_lanes m held.order.turns
+opened_new {S} held n m turns is same =
+    is ∙ (ap (λ k. new_lanes k turns) same ∙ ap (λ ts. new_lanes m ts) (sym (ap (λ (h : Held S). h.order.turns) is)))
+
+-- ---- a run that was written is served
+
+module _ (settings : Settings) (fsdi : ℕ) where
+  jobs_begin : (lane : List Work) → All (IsFresh settings fsdi) lane → All (MayBegin fsdi) (map (job_of settings) lane)
+  jobs_begin lane fresh =
+      All-map (MayBegin fsdi) (job_of settings) lane
+      (All-weaker (IsFresh settings fsdi) (λ w. MayBegin fsdi (job_of settings w)) (may_begin settings fsdi) lane fresh)
+
+  lanes_begin : (lanes : List (List Work)) → All (All (IsFresh settings fsdi)) lanes → All (All (MayBegin fsdi)) (map (λ lane. map (job_of settings) lane) lanes)
+  lanes_begin lanes fresh =
+      All-map (All (MayBegin fsdi)) (λ lane. map (job_of settings) lane) lanes
+      (All-weaker (All (IsFresh settings fsdi)) (λ lane. All (MayBegin fsdi) (map (job_of settings) lane)) jobs_begin lanes fresh)
+
+is_text : {P : Type 0} (steps : ProbeSteps P) (traced : Bool) (s : Scene) (p : P) (text : List ℕ) (q : P) → IsReady s → HasRun traced steps s.fsdi s.turns p (jobs_in s) text q
+    → IsTextOf steps traced s p text q
+is_text steps traced s p text q ready run = record {
+  run = run;
+  promise = λ gives.
+      subst (λ t. HasPromise traced s.fsdi s.turns (jobs_in s) t) (sym run.text_is)
+      (promised steps traced s.fsdi s.turns p (jobs_in s) run.exchanges gives (lanes_begin s.config s.fsdi s.lanes ready.fresh) run.over);
+}
+
+module _ {P : Type 0} (answers : ProbeAnswers P) (traced : Bool) (s : Scene) (ready : IsReady s) (before after : Outside P) where
+  abbrev pub RunsTo : List ℕ → List (List Job) → Type 0
+  RunsTo turns jobs =
+      (steps : ProbeSteps P) → Tells answers steps →
+      (text : List ℕ) × HasRun traced steps s.fsdi turns before.probe jobs text after.probe × Appends before.written after.written text
+
+  abbrev pub RunsToPart : List ℕ → List (List Job) → Type 0
+  RunsToPart turns jobs =
+      (steps : ProbeSteps P) → Tells answers steps →
+      (text : List ℕ) × (q : P) × HasRun traced steps s.fsdi turns before.probe jobs text q × AppendsPrefix before.written after.written text
+
+  pub writes : (turns : List ℕ) (jobs : List (List Job)) → turns ≡ s.turns → jobs ≡ jobs_in s → RunsTo turns jobs → Writes answers traced s before after
+  writes turns jobs same_turns same_jobs run = λ steps tells.
+      let whole : RunsTo s.turns (jobs_in s) = subst (λ js. RunsTo s.turns js) same_jobs (subst (λ ts. RunsTo ts jobs) same_turns run) in
+      let (text, has, appended) = whole steps tells in
+      (text, is_text steps traced s before.probe text after.probe ready has, appended)
+
+  pub writes_part : (turns : List ℕ) (jobs : List (List Job)) → turns ≡ s.turns → jobs ≡ jobs_in s → RunsToPart turns jobs → WritesPart answers traced s before after
+  writes_part turns jobs same_turns same_jobs run = λ steps tells.
+      let part : RunsToPart s.turns (jobs_in s) = subst (λ js. RunsToPart s.turns js) same_jobs (subst (λ ts. RunsToPart ts jobs) same_turns run) in
+      let (text, q, has, appended) = part steps tells in
+      (text, q, is_text steps traced s before.probe text q ready has, appended)
+
+module _ {P : Type 0} (answers : ProbeAnswers P) (form : Form) (input : Option (List ℕ)) (before after : Outside P) where
+  of_plan : (p : Plan) → Gives input p → (status : Status) → Runs answers (is_traced form) (scene_of p) before after status → Serves answers (Some form) input before after status
+  of_plan p gives Done r = (form, refl, p, gives, r)
+  of_plan p gives ReadFault r = absurd r
+  of_plan p gives WriteFault r = (form, refl, p, gives, r)
+  of_plan p gives NoMemory r = (refl, tt, r)
+  of_plan p gives Usage r = absurd r
+  of_plan p gives TooLong r = absurd r
+  of_plan p gives NotToml r = absurd r
+  of_plan p gives (BadDocument f) r = absurd r
+
+  -- A scene that was read and run is served.
+  pub served : (s : Scene) → Opens input s → (status : Status) → Runs answers (is_traced form) s before after status → Serves answers (Some form) input before after status
+  served s opens status r =
+      let says = opens.1 in
+      of_plan says.document (opens.0, says.reads, opens.2) status (subst (λ (t : Scene). Runs answers (is_traced form) t before after status) says.scene r)

@@ -1,4 +1,5 @@
 pub mod Headline
-pub mod Lines
+pub mod Promise
 pub mod Serve
 pub mod Status
+pub mod Words

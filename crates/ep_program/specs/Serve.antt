@@ -1,16 +1,22 @@
--- What the program answers, and what it wrote then (this project's own).
-use Rattle.std.specs.Prelude.{◌≡◌, ℕ, ◌<◌, Bool, true, false, List, Ok, Err, IfSome, length, ⊤}
+-- What the program answers, what it wrote then, and in which state it left the probe (this project's own).
+use Rattle.std.specs.Prelude.{◌≡◌, ℕ, ◌<◌, Bool, true, List, Some, None, Ok, Err, IfSome, is_some, length, ⊤}
 use Rattle.std.specs.declared.option.Option.{Option}
 use Rattle.std.specs.Io.KnownBytes.{Appends, Keeps}
 use Rattle.toml.specs.Data.{Members}
 use Rattle.ep_base.specs.Io.{AppendsPrefix}
+use Rattle.law_turns.specs.WholeRun.{ProbeSteps}
+use Rattle.ep_lanes.specs.Probing.{ProbeAnswers}
+use Rattle.lane_report.specs.Reports.{HasRun}
+use Rattle.lane_report.specs.Shows.{Tells}
 use Rattle.scenario.specs.Document.{IsDocument, Says}
 use Rattle.scenario.specs.Plan.{Plan, plan}
-use Rattle.scenario.specs.Scene.{Scene}
-use Rattle.ep_program.specs.Headline.{PlanCourses, scene_text, text_of}
-use Rattle.ep_program.specs.Lines.{AppendsEach, AppendsPartOfEach}
+use Rattle.scenario.specs.Scene.{Scene, scene_of}
+use Rattle.ep_program.specs.Headline.{jobs_in}
+use Rattle.ep_program.specs.Promise.{GivesOn, HasPromise}
+use Rattle.ep_program.specs.Words.{is_traced}
 use Rattle.ep_program.specs.declared.status.Status.{Status}
 use Rattle.ep_program.specs.declared.status.Status.TheVariants.{Done, ReadFault, WriteFault, NoMemory, Usage, TooLong, NotToml, BadDocument}
+use Rattle.ep_program.specs.declared.form.Form.{Form}
 
 -- The input, where its bytes are told, is a document with this plan (this project's own).
 abbrev pub Gives : Option (List ℕ) → Plan → Type 0
@@ -31,31 +37,54 @@ Refuses input TooLong = IfSome input (λ bytes. 1048576 < length bytes)
 Refuses input NotToml = IfSome input (λ bytes. (members : Members) → IsDocument bytes members → ⊥)
 Refuses input (BadDocument f) = (members : Members) × (plan members ≡ Err f) × IfSome input (λ bytes. IsDocument bytes members)
 
--- The transactions of a document have courses, all of which give one text (this project's own).
-pub record HasText (p : Plan) (text : List ℕ) : Type 0 where
-  pub courses : PlanCourses p
-  pub text_is : text ≡ text_of p courses
-  pub only : (others : PlanCourses p) → text_of p others ≡ text
+-- The bytes written, where they are told, and the state of the probe (this project's own).
+pub record Outside (P : Type 0) : Type 0 where
+  pub written : Option (List ℕ)
+  pub probe : P
 
--- `Done` comes with the whole report, `WriteFault` with a first part of it, and every other status with nothing written and with its reason (this
--- project's own).
-abbrev pub Serves : (run : Bool) → (input before after : Option (List ℕ)) → Status → Type 0
-Serves run input before after Done = (run ≡ true) × (p : Plan) × Gives input p × (text : List ℕ) × HasText p text × Appends before after text
-Serves run input before after WriteFault = (run ≡ true) × (p : Plan) × Gives input p × (text : List ℕ) × HasText p text × AppendsPrefix before after text
-Serves run input before after Usage = (run ≡ false) × Keeps before after
-Serves run input before after ReadFault = (run ≡ true) × Refuses input ReadFault × Keeps before after
-Serves run input before after NoMemory = (run ≡ true) × Refuses input NoMemory × Keeps before after
-Serves run input before after TooLong = (run ≡ true) × Refuses input TooLong × Keeps before after
-Serves run input before after NotToml = (run ≡ true) × Refuses input NotToml × Keeps before after
-Serves run input before after (BadDocument f) = (run ≡ true) × Refuses input (BadDocument f) × Keeps before after
+-- The text of a scene's run with a probe of these steps, which leaves the probe in this state; it has the promise where the probe gives on what it
+-- gets (this project's own).
+pub record IsTextOf {P : Type 0} (steps : ProbeSteps P) (traced : Bool) (s : Scene) (p : P) (text : List ℕ) (q : P) : Type 0 where
+  pub run : HasRun traced steps s.fsdi s.turns p (jobs_in s) text q
+  pub promise : GivesOn steps → HasPromise traced s.fsdi s.turns (jobs_in s) text
 
--- What running a scene answers and writes (this project's own).
-abbrev pub Reports : Scene → (before after : Option (List ℕ)) → Status → Type 0
-Reports s before after Done = AppendsEach (scene_text s) before after
-Reports s before after ReadFault = ⊥
-Reports s before after WriteFault = AppendsPartOfEach (scene_text s) before after
-Reports s before after NoMemory = Keeps before after
-Reports s before after Usage = ⊥
-Reports s before after TooLong = ⊥
-Reports s before after NotToml = ⊥
-Reports s before after (BadDocument f) = ⊥
+-- The whole text of a scene's run was appended, and the probe is as the run leaves it, where the probe has these steps (this project's own).
+abbrev pub Writes : {P : Type 0} → ProbeAnswers P → Bool → Scene → (before after : Outside P) → Type 0
+Writes {P} answers traced s before after =
+    (steps : ProbeSteps P) → Tells answers steps →
+    (text : List ℕ) × IsTextOf steps traced s before.probe text after.probe × Appends before.written after.written text
+
+-- A first part of that text was appended (this project's own).
+abbrev pub WritesPart : {P : Type 0} → ProbeAnswers P → Bool → Scene → (before after : Outside P) → Type 0
+WritesPart {P} answers traced s before after =
+    (steps : ProbeSteps P) → Tells answers steps →
+    (text : List ℕ) × (q : P) × IsTextOf steps traced s before.probe text q × AppendsPrefix before.written after.written text
+
+-- Nothing was written, and the probe is as it was (this project's own).
+abbrev pub Stays : {P : Type 0} → (before after : Outside P) → Type 0
+Stays before after = Keeps before.written after.written × (after.probe ≡ before.probe)
+
+-- `Done` comes with the whole text of the document's run, `WriteFault` with a first part of it, and every other status with nothing written, the
+-- probe as it was, and with its reason (this project's own).
+abbrev pub Serves : {P : Type 0} → ProbeAnswers P → Option Form → Option (List ℕ) → (before after : Outside P) → Status → Type 0
+Serves answers form input before after Done =
+    (f : Form) × (form ≡ Some f) × (p : Plan) × Gives input p × Writes answers (is_traced f) (scene_of p) before after
+Serves answers form input before after WriteFault =
+    (f : Form) × (form ≡ Some f) × (p : Plan) × Gives input p × WritesPart answers (is_traced f) (scene_of p) before after
+Serves answers form input before after Usage = (form ≡ None) × Stays before after
+Serves answers form input before after ReadFault = (is_some form ≡ true) × Refuses input ReadFault × Stays before after
+Serves answers form input before after NoMemory = (is_some form ≡ true) × Refuses input NoMemory × Stays before after
+Serves answers form input before after TooLong = (is_some form ≡ true) × Refuses input TooLong × Stays before after
+Serves answers form input before after NotToml = (is_some form ≡ true) × Refuses input NotToml × Stays before after
+Serves answers form input before after (BadDocument f) = (is_some form ≡ true) × Refuses input (BadDocument f) × Stays before after
+
+-- What running a scene answers, what it writes, and in which state it leaves the probe (this project's own).
+abbrev pub Runs : {P : Type 0} → ProbeAnswers P → Bool → Scene → (before after : Outside P) → Status → Type 0
+Runs answers traced s before after Done = Writes answers traced s before after
+Runs answers traced s before after ReadFault = ⊥
+Runs answers traced s before after WriteFault = WritesPart answers traced s before after
+Runs answers traced s before after NoMemory = Stays before after
+Runs answers traced s before after Usage = ⊥
+Runs answers traced s before after TooLong = ⊥
+Runs answers traced s before after NotToml = ⊥
+Runs answers traced s before after (BadDocument f) = ⊥

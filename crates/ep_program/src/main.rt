@@ -1,14 +1,14 @@
-//! The program: it reads a document, runs its transactions and writes their report.
+//! The program: it reads a document, runs the transactions of its lanes by turns and writes their report.
 #![tactic(auto)]
 
-mod lines;
-mod report;
+mod form;
 mod serve;
 mod status;
 #[cfg(test)]
 mod tests;
 
 use ep_base::{Line, StdSink, StdSource};
+use ep_lanes::Open;
 use serve::serve;
 use status::{Status, fault_text};
 use std::io;
@@ -31,7 +31,7 @@ fn main(rt: HostRuntime) -> ExitCode {
         Ok(words) => {
             let mut input = StdSource::new(rt.reader());
             let mut output = StdSink::new(io::writer(&rt));
-            serve(rt.alloc(), &words, &mut input, &mut output)
+            serve(rt.alloc(), &words, &mut input, &mut output, &mut Open)
         }
         Err(_) => Status::NoMemory,
     };

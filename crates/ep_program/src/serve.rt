@@ -2,28 +2,20 @@
 ghost use Rattle.std.specs.Prelude.{◌≡◌, IfOk, IfErr, IsErrOf, OnOk};
 ghost use Rattle.std.specs.Io.KnownBytes.{IsAtEnd};
 ghost use Rattle.ep_base.specs.Causes.{HasCause};
-ghost use Rattle.ep_program.specs.Headline.{IsReady, is_run};
-ghost use Rattle.ep_program.specs.Serve.{Opens, Refuses, Serves, Reports};
+ghost use Rattle.ep_program.specs.Headline.{IsReady};
+ghost use Rattle.ep_program.specs.Serve.{Opens, Refuses, Runs, Serves};
+ghost use Rattle.ep_program.specs.Words.{form_of};
 
-use crate::report::report_lanes;
+use crate::form::form_of;
 use crate::status::Status;
-use entry_session::Session;
 use ep_base::{NoMemory, ReadEnd, Sink, Source, read_all};
+use ep_lanes::{Lanes, Probe};
+use lane_report::{report_lanes, works_of};
 use scenario::{DocEnd, Scenario};
 use std::alloc::Global;
 
 /// The most bytes of an input.
 const LIMIT: usize = 1_048_576;
-
-// Whether the words are the one form that is built.
-fn is_run(words: &[String]) -> bool
-    ensures { result ≡ is_run words.now }
-{
-    match words {
-        [word] => word.as_str() == "run",
-        _ => false,
-    }
-}
 
 // All that comes in, and what it says.
 fn read<S: Source>(alloc: Global, input: &mut S) -> Result<Scenario, Status>
@@ -45,61 +37,90 @@ fn read<S: Source>(alloc: Global, input: &mut S) -> Result<Scenario, Status>
     }
 }
 
-/// Does what the words say: `run` reads a document from the input, runs its transactions over the radio, one after
-/// another, each with the field of its own cards, and writes their report. All memory is taken before the first line is
-/// written.
+/// Does what the words say: `run` reads a document from the input, runs the transactions of its lanes over the radio, each
+/// with the field of its own cards, and writes their report; `run trace` writes each exchange with the radio as well, before
+/// the lines of the events that it adds. All memory is taken before the first line is written.
 ///
-/// This is the promise of the whole program. Whatever frames are lost or damaged by a burst, whichever cards are present
-/// in a round, and whenever they leave, each transaction has a course, which says what was heard in it, and `Done` comes
-/// with exactly the lines of these courses: there is one text, and no other can be written.
+/// The lanes are opened in rising order. Then each turn makes one exchange of one lane: the lane that the document's turn
+/// list names next, where lanes without an exchange left are skipped, and after the list's end the lanes in rising order,
+/// again and again. Where a transaction ends, its log follows, and the lane's next one is opened in the same turn.
 ///
-/// - In a course that comes to its end the events are those of the Entry Point rules over a perfect channel, for the ends
-///   that its poll rounds had, and the cards executed exactly the commands of that run, each once and in their order.
+/// What the reader hears in each exchange is what the probe makes of what the field gave. Where the probe tells its steps,
+/// these fix all exchanges together, one after another: `Done` comes with the text of this run, whole, and with the probe as
+/// the last exchange left it.
+///
+/// This is the promise of the whole program, for the probe that gives on what it gets. Whatever frames are lost or damaged
+/// by a burst, whichever cards are present in a round and whenever they leave, and in whatever order the lanes make their
+/// exchanges:
+///
+/// - In a transaction that comes to its end the events are those of the Entry Point rules over a perfect channel, for the
+///   ends that its poll rounds had, and the cards executed exactly the commands of that run, each once and in their order.
 /// - A link fails only where an open link made its third bad exchange of a command since the reader's last toggle, or
 ///   since the link was opened. Then the report has the events before that command and the failed link's end, and the
 ///   cards executed the commands before it, each once, and that command at most once.
 /// - A card is never found to break the rules of the link, and no device fails.
+/// - Each lane writes what it writes alone, with its own number and without a turn list.
+/// - There is one such text, and no other can be written.
 ///
 /// A sink that fails leaves a first part of that text, with `WriteFault`.
 ///
 /// Each status has its reason: `Usage` the words, `BadDocument` the document's first fault, `NotToml` and `TooLong` the
 /// input; `ReadFault` and `WriteFault` come only where a count of faults rose, and `NoMemory` may come for every document.
-pub fn serve<S: Source, K: Sink>(
+/// But for `Done` and `WriteFault` nothing is written, and the probe is as it was.
+pub fn serve<S: Source, K: Sink, P: Probe>(
     alloc: Global,
     words: &[String],
     input: &mut S,
     output: &mut K,
+    probe: &mut P,
 ) -> Status
-    ensures serves { Serves (is_run words.now) (S.left input.old) (K.written output.old) (K.written output.new) result }
+    ensures serves { Serves P.steps (form_of words.now) (S.left input.old)
+        (record { written = K.written output.old; probe = P.state probe.old })
+        (record { written = K.written output.new; probe = P.state probe.new }) result }
     ensures whole { result ≡ Status.Done → IsAtEnd (S.left input.new) }
     ensures read_cause { HasCause (S.faults input.old) (S.faults input.new) (result ≡ Status.ReadFault) }
     ensures write_cause { HasCause (K.faults output.old) (K.faults output.new) (result ≡ Status.WriteFault) }
 {
-    if !is_run(words) {
+    let Some(form) = form_of(words) else {
         return Status::Usage;
-    }
+    };
     match read(alloc, input) {
-        Ok(scenario) => run(alloc, scenario, output),
+        Ok(scenario) => run(alloc, scenario, form.is_traced(), output, probe),
         Err(status) => status,
     }
 }
 
 // Runs the transactions of a document and writes their report.
-fn run<K: Sink>(alloc: Global, scenario: Scenario, output: &mut K) -> Status
+fn run<K: Sink, P: Probe>(
+    alloc: Global,
+    scenario: Scenario,
+    traced: bool,
+    output: &mut K,
+    probe: &mut P,
+) -> Status
     requires ready { IsReady scenario }
-    ensures reports { Reports scenario (K.written output.old) (K.written output.new) result }
+    ensures runs { Runs P.steps traced scenario
+        (record { written = K.written output.old; probe = P.state probe.old })
+        (record { written = K.written output.new; probe = P.state probe.new }) result }
     ensures cause { HasCause (K.faults output.old) (K.faults output.new) (result ≡ Status.WriteFault) }
 {
     let Scenario {
         config,
         fsdi,
+        turns,
         lanes,
+        trace: _,
     } = scenario;
-    let mut session = match Session::open(alloc) {
-        Ok(session) => session,
+    let count = lanes.len() as u8;
+    let mut works = match works_of(alloc, lanes) {
+        Ok(works) => works,
         Err(NoMemory) => return Status::NoMemory,
     };
-    match report_lanes(&mut session, &config, fsdi, lanes, output) {
+    let mut lanes = match Lanes::open(alloc, count, turns) {
+        Ok(lanes) => lanes,
+        Err(NoMemory) => return Status::NoMemory,
+    };
+    match report_lanes(&mut lanes, &config, fsdi, traced, &mut works, output, probe) {
         Ok(()) => Status::Done,
         Err(_) => Status::WriteFault,
     }

@@ -8,10 +8,12 @@ mod limits;
 mod radio;
 mod refusals;
 mod selection;
+mod turns;
 
 use crate::serve::serve;
 use crate::status::{Status, fault_text};
 use ep_base::{Line, MemorySink, MemorySource};
+use ep_lanes::{Open, Probe};
 use std::test::Fail;
 
 /// A purchase of 10.00 with one Combination, one card and one kernel that approves, up to the name of its application.
@@ -116,12 +118,25 @@ fn filled(rt: &HostRuntime, text: &str, length: usize) -> Result<Vec<u8>, Fail> 
     Ok(bytes)
 }
 
+// What these words leave, where the probe gives on what it gets.
 fn run(
     rt: &HostRuntime,
     words: &[&str],
     document: &[u8],
     source_fails: &[u32],
     sink_fails: &[u32],
+) -> Result<Left, Fail> {
+    probed(rt, words, document, source_fails, sink_fails, &mut Open)
+}
+
+// The same with any probe.
+fn probed<P: Probe>(
+    rt: &HostRuntime,
+    words: &[&str],
+    document: &[u8],
+    source_fails: &[u32],
+    sink_fails: &[u32],
+    probe: &mut P,
 ) -> Result<Left, Fail> {
     let mut given = Vec::new(rt.alloc());
     for word in words {
@@ -131,7 +146,7 @@ fn run(
     let mut source = MemorySource::new(bytes, source_fails.to_vec(rt.alloc())?);
     let fails = sink_fails.to_vec(rt.alloc())?;
     let mut sink = MemorySink::new(rt.alloc(), 65536, fails).map_err(|_| "room")?;
-    let status = serve(rt.alloc(), &given, &mut source, &mut sink);
+    let status = serve(rt.alloc(), &given, &mut source, &mut sink, probe);
     let mut said = Line::new();
     fault_text(&status, &mut said);
     Ok(Left {

@@ -1,10 +1,13 @@
 -- A document that is accepted is within its limits.
-use Rattle.std.proofs.Common.{◌≡◌, [], ◌∷◌, length, codes, Ok, subst, arith}
-use Rattle.std.proofs.lemmas.List.Elements.{All-cons, All-nil}
+use Rattle.std.proofs.Common.{◌≡◌, ℕ, ◌≤◌, List, [], length, codes, Option, Ok, subst, arith}
+use Rattle.std.specs.Prelude.{⊤}
+use Rattle.std.specs.Option.{ForSome}
+use Rattle.std.proofs.lemmas.List.Elements.{All-nil}
 use Rattle.toml.specs.Data.{Members}
+use Rattle.ep_base.specs.TraceLine.{Traced}
 use Rattle.doc_table.specs.declared.list.ElementKind.TheVariants as elements
-use Rattle.doc_table.specs.Read.{Place, place_of, table_of, required, defaulted, unbuilt, integer_in, list_of, only_of}
-use Rattle.doc_table.proofs.Accepted.{Accepts, after, accepted_integer, accepted_required, accepted_defaulted, accepted_list, accepted_only}
+use Rattle.doc_table.specs.Read.{Place, place_of, table_of, required, defaulted, integer_in, list_of}
+use Rattle.doc_table.proofs.Accepted.{Accepts, IsListOf, after, accepted_integer, accepted_required, accepted_defaulted, accepted_optional, accepted_list}
 use Rattle.acquirer_config.specs.Config.{config_at}
 use Rattle.acquirer_config.proofs.Accepted.{accepted_config}
 use Rattle.card_table.specs.Cards.{cards_at}
@@ -12,8 +15,10 @@ use Rattle.card_table.proofs.Whole.{accepted_cards_at}
 use Rattle.fate_table.specs.Fates.{fates_at}
 use Rattle.fate_table.specs.Presence.{presence_at}
 use Rattle.fate_table.proofs.Accepted.{accepted_fates, accepted_presence}
+use Rattle.trace_table.specs.Trace.{line, trace_at}
 use Rattle.scenario.specs.Accepted.{IsLawful, IsLane, IsAccepted}
-use Rattle.scenario.specs.Plan.{Transaction, Plan, scripts_at, transaction_keys, transaction_at, transaction, lane_keys, lane, root_keys, plan_at, plan}
+use Rattle.scenario.specs.Plan.{Transaction, Plan, scripts_at, transaction_keys, transaction_at, transaction, lane_keys, lane, lanes_at, root_keys, plan_at, plan}
+use Rattle.scenario.specs.Turns.{AreTurns, turns_at}
 use Rattle.scenario.proofs.Sending.{accepted_scripts}
 
 transaction_is : (place : Place) (t : Transaction) → transaction_at place ≡ Ok t → IsLawful t
@@ -52,25 +57,54 @@ accepted_lane = record {
   is = λ path d ts e. after (table_of lane_keys path d) _ ts e (λ place _ is. accepted_required _ _ (codes "transactions") place ts accepted_transactions is);
 }
 
+-- The lanes, 1 to 8.
+pub accepted_lanes : (root : Place) (lanes : List (List Transaction)) → lanes_at root ≡ Ok lanes → IsListOf IsLane 1 8 lanes
+accepted_lanes root lanes e = accepted_required _ _ (codes "lanes") root lanes (accepted_list elements.Table 1 8 lane IsLane accepted_lane) e
+
+-- A number of one of so many lanes.
+abbrev IsNumber : ℕ → ℕ → Type 0
+IsNumber lanes n = (1 ≤ n) × (n ≤ lanes)
+
+accepted_turns : (lanes : ℕ) (root : Place) (turns : List ℕ) → turns_at lanes root ≡ Ok turns → AreTurns lanes turns
+accepted_turns lanes root turns e =
+    let none : IsListOf (IsNumber lanes) 0 4096 [] = record { each = All-nil (IsNumber lanes); least = omega arith; most = omega arith } in
+    let all = accepted_defaulted _ _ [] (codes "turns") root turns (accepted_list elements.Integer 0 4096 (integer_in 1 lanes) (IsNumber lanes) (accepted_integer 1 lanes)) none e in
+    record { few = all.most; known = all.each }
+
+accepted_line : Accepts line (λ _. ⊤)
+accepted_line = record { is = λ path d x e. tt }
+
+-- At most 65536 trace lines.
+abbrev IsShort : List Traced → Type 0
+IsShort lines = length lines ≤ 65536
+
+accepted_lines : Accepts (list_of elements.Text 0 65536 line) IsShort
+accepted_lines = record { is = λ path d xs e. ((accepted_list elements.Text 0 65536 line (λ _. ⊤) accepted_line).is path d xs e).most }
+
+accepted_trace : (root : Place) (trace : Option (List Traced)) → trace_at root ≡ Ok trace → ForSome trace IsShort
+accepted_trace root trace e = accepted_optional _ IsShort (codes "trace") root trace accepted_lines e
+
 root_is : (root : Place) (p : Plan) → plan_at root ≡ Ok p → IsAccepted p
 unfolding plan_at
 root_is root p e =
     after (required (integer_in 1 1) (codes "version") root) _ p e (λ _ _ e1.
     after (defaulted 8 (integer_in 0 8) (codes "fsdi") root) _ p e1 (λ fsdi is_fsdi e2.
     after (config_at root) _ p e2 (λ config is_config e3.
-    after (required (only_of elements.Table 1 8 lane) (codes "lanes") root) _ p e3 (λ one is_one e4.
-    after (unbuilt (codes "turns") root) _ p e4 (λ _ _ e5.
-    after (unbuilt (codes "trace") root) _ p e5 (λ _ _ e6.
-    let made : Plan = record { config = config; fsdi = fsdi; lanes = one ∷ [] } in
+    after (lanes_at root) _ p e3 (λ lanes is_lanes e4.
+    after (turns_at (length lanes) root) _ p e4 (λ turns is_turns e5.
+    after (trace_at root) _ p e5 (λ trace is_trace e6.
+    let made : Plan = record { config = config; fsdi = fsdi; turns = turns; lanes = lanes; trace = trace } in
     let same : made ≡ p = cc in
     let code = accepted_defaulted (integer_in 0 8) _ 8 (codes "fsdi") root fsdi (accepted_integer 0 8) (omega arith, omega arith) is_fsdi in
-    let of_lane = accepted_required _ _ (codes "lanes") root one (accepted_only elements.Table 1 8 lane IsLane accepted_lane) is_one in
+    let of_lanes = accepted_lanes root lanes is_lanes in
     subst IsAccepted same (record {
       config = accepted_config root config is_config;
       fsdi = code.1;
-      some = omega arith;
-      few = omega arith;
-      lanes = All-cons IsLane one [] of_lane (All-nil IsLane);
+      some = of_lanes.least;
+      few = of_lanes.most;
+      lanes = of_lanes.each;
+      turns = accepted_turns (length lanes) root turns is_turns;
+      trace = accepted_trace root trace is_trace;
     })))))))
 
 -- What is accepted of a document's root.

@@ -1,3 +1,4 @@
 pub mod Accepted
 pub mod Commands
+pub mod Root
 pub mod Sending

@@ -1,5 +1,6 @@
 -- What holds of a document that is accepted (this project's profile).
 use Rattle.std.specs.Prelude.{◌≤◌, All, List, length}
+use Rattle.std.specs.Option.{ForSome}
 use Rattle.ep_base.specs.Air.{ArePassages}
 use Rattle.ep_base.specs.Configuration.{AreSettings}
 use Rattle.law_round.specs.Lawful.{ArePlaced, AreApart, names}
@@ -8,6 +9,7 @@ use Rattle.card_table.specs.Placing.{placed_from}
 use Rattle.fate_table.specs.Presence.{ArePresences}
 use Rattle.scenario.specs.Plan.{Transaction, Plan}
 use Rattle.scenario.specs.Scripts.{AreScripts}
+use Rattle.scenario.specs.Turns.{AreTurns}
 
 -- A transaction: its cards are within their limits, no two of one kind have the same identifier, and each has a number of its own; presence names no
 -- other cards; bursts have at most sixteen bits; and its scripts are within their limits (this project's profile).
@@ -25,10 +27,13 @@ pub record IsLane (lane : List Transaction) : Type 0 where
   pub short : length lane ≤ 64
   pub lawful : All IsLawful lane
 
--- A document: the limits of its configuration, 1 to 8 lanes, and a frame size code of at most 8 (this project's profile).
+-- A document: the limits of its configuration, 1 to 8 lanes, a frame size code of at most 8, at most 4096 turns, which are those of its lanes, and a
+-- trace, where there is one, of at most 65536 lines (this project's profile).
 pub record IsAccepted (p : Plan) : Type 0 where
   pub config : AreSettings p.config
   pub fsdi : p.fsdi ≤ 8
   pub some : 1 ≤ length p.lanes
   pub few : length p.lanes ≤ 8
   pub lanes : All IsLane p.lanes
+  pub turns : AreTurns (length p.lanes) p.turns
+  pub trace : ForSome p.trace (λ lines. length lines ≤ 65536)

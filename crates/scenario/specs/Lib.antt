@@ -4,3 +4,4 @@ pub mod Outcomes
 pub mod Plan
 pub mod Scene
 pub mod Scripts
+pub mod Turns

@@ -1,17 +1,21 @@
 -- Transactions, lanes and the root of a document (this project's own).
 use Rattle.std.specs.Prelude.{codes, ℕ, List, [], ◌∷◌, length, Result, Ok}
+use Rattle.std.specs.declared.option.Option.{Option}
 use Rattle.toml.specs.Data.{Members}
 use Rattle.ep_base.specs.Air.{Passage}
 use Rattle.ep_base.specs.Configuration.{Settings}
 use Rattle.ep_base.specs.Kernel.{Script}
+use Rattle.ep_base.specs.TraceLine.{Traced}
 use Rattle.doc_table.specs.Fault.{Fault}
 use Rattle.doc_table.specs.declared.list.ElementKind.TheVariants as elements
-use Rattle.doc_table.specs.Read.{◌>>=◌, Reader, Place, place_of, table_of, required, defaulted, unbuilt, integer_in, list_of, only_of}
+use Rattle.doc_table.specs.Read.{◌>>=◌, Reader, Place, place_of, table_of, required, defaulted, integer_in, list_of}
 use Rattle.acquirer_config.specs.Config.{config_at}
 use Rattle.card_table.specs.Cards.{Card, cards_at}
 use Rattle.fate_table.specs.Fates.{fates_at}
 use Rattle.fate_table.specs.Presence.{presence_at}
+use Rattle.trace_table.specs.Trace.{trace_at}
 use Rattle.scenario.specs.Scripts.{script}
+use Rattle.scenario.specs.Turns.{turns_at}
 
 -- A transaction: its type and amount, its cards, which of them are present in each round, what becomes of the frames of each exchange, and the scripts
 -- of its kernels (this project's own).
@@ -23,11 +27,14 @@ pub record Transaction : Type 0 where
   pub fates : List Passage
   pub scripts : List Script
 
--- A document: the configuration, the reader's frame size code, and each lane's transactions (this project's own).
+-- A document: the configuration, the reader's frame size code, which lanes make the first exchanges, each lane's transactions, and the trace of an
+-- earlier run, where there is one (this project's own).
 pub record Plan : Type 0 where
   pub config : Settings
   pub fsdi : ℕ
+  pub turns : List ℕ
   pub lanes : List (List Transaction)
+  pub trace : Option (List Traced)
 
 -- The keys of a transaction, in the order in which they are checked (this project's own).
 abbrev pub transaction_keys : List (List ℕ)
@@ -64,6 +71,10 @@ lane path d = do
   place ← table_of lane_keys path d
   required (list_of elements.Table 1 64 transaction) (codes "transactions") place
 
+-- The lanes, 1 to 8 (this project's own).
+abbrev pub lanes_at : Place → Result (List (List Transaction)) Fault
+lanes_at root = required (list_of elements.Table 1 8 lane) (codes "lanes") root
+
 -- The keys of the root, in the order in which they are checked (this project's own).
 abbrev pub root_keys : List (List ℕ)
 root_keys =
@@ -76,10 +87,10 @@ plan_at root = do
   version ← required (integer_in 1 1) (codes "version") root
   fsdi ← defaulted 8 (integer_in 0 8) (codes "fsdi") root
   config ← config_at root
-  one ← required (only_of elements.Table 1 8 lane) (codes "lanes") root
-  no_turns ← unbuilt (codes "turns") root
-  no_trace ← unbuilt (codes "trace") root
-  Ok (record { config = config; fsdi = fsdi; lanes = one ∷ [] })
+  lanes ← lanes_at root
+  turns ← turns_at (length lanes) root
+  trace ← trace_at root
+  Ok (record { config = config; fsdi = fsdi; turns = turns; lanes = lanes; trace = trace })
 
 -- What the members of a document's root mean (this project's own).
 abbrev pub plan : Members → Result Plan Fault

@@ -1,8 +1,10 @@
 -- The fields and kernels that a document's transactions begin with (this project's own).
 use Rattle.std.specs.Prelude.{ℕ, ◌+◌, List, length, map, None}
+use Rattle.std.specs.declared.option.Option.{Option}
 use Rattle.ep_base.specs.Configuration.{Settings, count_of}
 use Rattle.ep_base.specs.Field.{Field, new_field}
 use Rattle.ep_base.specs.Kernel.{Scripted, steps_left}
+use Rattle.ep_base.specs.TraceLine.{Traced}
 use Rattle.law_run.specs.Bounds.{log_bound}
 use Rattle.card_table.specs.Placing.{placed_from}
 use Rattle.scenario.specs.Plan.{Transaction, Plan}
@@ -14,11 +16,14 @@ pub record Work : Type 0 where
   pub field : Field
   pub scripts : Scripted
 
--- The configuration, the reader's frame size code, and the transactions of each lane that are about to begin (this project's own).
+-- The configuration, the reader's frame size code, which lanes make the first exchanges, the transactions of each lane that are about to begin, and
+-- the trace of an earlier run, where there is one (this project's own).
 pub record Scene : Type 0 where
   pub config : Settings
   pub fsdi : ℕ
+  pub turns : List ℕ
   pub lanes : List (List Work)
+  pub trace : Option (List Traced)
 
 -- How many records a transaction's log has room for: one more than the most commands that it sends (this project's own).
 abbrev pub room_of : Settings → Transaction → ℕ
@@ -35,4 +40,10 @@ work_of settings t = record {
 
 -- All transactions of a document (this project's own).
 abbrev pub scene_of : Plan → Scene
-scene_of p = record { config = p.config; fsdi = p.fsdi; lanes = map (λ lane. map (work_of p.config) lane) p.lanes }
+scene_of p = record {
+  config = p.config;
+  fsdi = p.fsdi;
+  turns = p.turns;
+  lanes = map (λ lane. map (work_of p.config) lane) p.lanes;
+  trace = p.trace;
+}

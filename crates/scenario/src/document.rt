@@ -1,16 +1,19 @@
 //! The tables of a document's root and of its lanes.
-ghost use Rattle.std.specs.Prelude.{◌≡◌, []};
+ghost use Rattle.std.specs.Prelude.{◌≡◌, ◌≤◌, [], length, map, IfOk};
 ghost use Rattle.toml.specs.View.{table_view};
 ghost use Rattle.doc_table.specs.Read.{GivesIfRoom};
 ghost use Rattle.doc_table.specs.Section.{place};
-ghost use Rattle.scenario.specs.Plan.{plan_at, plan};
+ghost use Rattle.scenario.specs.Plan.{lanes_at, plan_at, plan};
 
 use crate::transaction::{Transaction, TransactionTable};
+use crate::turns::turns_of;
 use acquirer_config::Config;
-use doc_table::{ListOf, OnlyOne, Path, Read, Section, TableEnd};
+use doc_table::{ListOf, Path, Read, Section, TableEnd};
 use std::alloc::Global;
 use std::marker::Model;
 use toml::{Table, Value};
+use trace_io::TraceLine;
+use trace_table::trace_of;
 
 /// What the tables of a document say.
 #[derive(Drop)]
@@ -19,17 +22,28 @@ pub struct Document {
     pub config: Config,
     /// The code of the reader's frame size, 0 to 8.
     pub fsdi: u8,
+    /// The numbers of the lanes that make the first exchanges, counted from 1.
+    pub turns: Vec<u8>,
     /// The lanes, each with its transactions.
     pub lanes: Vec<Vec<Transaction>>,
+    /// The trace of an earlier run, where there is one.
+    pub trace: Option<Vec<TraceLine>>,
 }
 
 impl Model for Document {
-    ghost use Rattle.std.specs.Prelude.{map};
+    ghost use Rattle.std.specs.Prelude.{map, option_map};
+    ghost use Rattle.trace_io.specs.Meaning.{traced_of};
     ghost use Rattle.scenario.specs.Plan.{Plan};
 
     ghost Value = { Plan };
 
-    ghost view = { λ d. record { config = d.config; fsdi = d.fsdi; lanes = map (λ lane. lane.items) d.lanes.items } };
+    ghost view = { λ d. record {
+      config = d.config;
+      fsdi = d.fsdi;
+      turns = d.turns.items;
+      lanes = map (λ lane. lane.items) d.lanes.items;
+      trace = option_map (λ v. map traced_of v.items) d.trace;
+    } };
 }
 
 const LANE_KEYS: [&str; 1] = ["transactions"];
@@ -92,17 +106,23 @@ fn plan_at(alloc: Global, root: &Section) -> Result<Document, TableEnd>
     let _version = root.required_integer("version", 1, 1)?;
     let fsdi = root.integer_or("fsdi", 8, 0, 8)?;
     let config = Config::of_table(alloc, root.table())?;
-    let only = OnlyOne {
-        list: ListOf::tables(1, 8, LaneTable),
-    };
-    let lane = root.required(alloc, "lanes", &only)?;
-    root.unbuilt("turns")?;
-    root.unbuilt("trace")?;
-    let mut lanes = Vec::new(alloc);
-    lanes.push(lane)?;
+    let lanes = lanes_of(alloc, root)?;
+    let turns = turns_of(alloc, root, lanes.len())?;
+    let trace = trace_of(alloc, root)?;
     Ok(Document {
         config,
         fsdi: fsdi as u8,
+        turns,
         lanes,
+        trace,
     })
+}
+
+// The lanes, at most 8.
+fn lanes_of(alloc: Global, root: &Section) -> Result<Vec<Vec<Transaction>>, TableEnd>
+    requires { root.now.path.now ≡ [] }
+    ensures value { GivesIfRoom (λ v. map (λ lane. lane.items) v.items) result (lanes_at (place root.now)) }
+    ensures few { IfOk result (λ v. length v.items ≤ 8) }
+{
+    root.required(alloc, "lanes", &ListOf::tables(1, 8, LaneTable))
 }

@@ -7,6 +7,7 @@ mod outcome;
 mod scenario;
 mod script;
 mod transaction;
+mod turns;
 
 pub use acquirer_config::{Config, DocFault, DocKind};
 pub use document::Document;
@@ -14,4 +15,5 @@ pub use job::Job;
 pub use kernel_port::Scripts;
 pub use rf_field::Field;
 pub use scenario::{DocEnd, Scenario};
+pub use trace_io::TraceLine;
 pub use transaction::Transaction;

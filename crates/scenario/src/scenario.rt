@@ -15,6 +15,7 @@ use ep_base::NoMemory;
 use std::alloc::Global;
 use std::marker::Model;
 use toml::Table;
+use trace_io::TraceLine;
 
 /// Why bytes gave no scenario.
 #[derive(Debug, Drop)]
@@ -28,24 +29,36 @@ pub enum DocEnd {
 }
 
 /// What a document says, with all the memory that its transactions take: the configuration, the code of the reader's
-/// frame size, and the transactions of each lane in their order.
+/// frame size, which lanes make the first exchanges, the transactions of each lane in their order, and the trace of an
+/// earlier run.
 #[derive(Drop)]
 pub struct Scenario {
     /// The configuration.
     pub config: Config,
     /// The code of the reader's frame size, 0 to 8.
     pub fsdi: u8,
-    /// The lanes, each with its transactions.
+    /// The numbers of the lanes that make the first exchanges, counted from 1: at most 4,096.
+    pub turns: Vec<u8>,
+    /// The lanes, 1 to 8, each with its transactions.
     pub lanes: Vec<Vec<Job>>,
+    /// The trace of an earlier run, at most 65,536 exchanges, where the document has one.
+    pub trace: Option<Vec<TraceLine>>,
 }
 
 impl Model for Scenario {
-    ghost use Rattle.std.specs.Prelude.{map};
+    ghost use Rattle.std.specs.Prelude.{map, option_map};
+    ghost use Rattle.trace_io.specs.Meaning.{traced_of};
     ghost use Rattle.scenario.specs.Scene.{Scene};
 
     ghost Value = { Scene };
 
-    ghost view = { λ s. record { config = s.config; fsdi = s.fsdi; lanes = map (λ lane. lane.items) s.lanes.items } };
+    ghost view = { λ s. record {
+      config = s.config;
+      fsdi = s.fsdi;
+      turns = s.turns.items;
+      lanes = map (λ lane. lane.items) s.lanes.items;
+      trace = option_map (λ v. map traced_of v.items) s.trace;
+    } };
 }
 
 impl Scenario {
@@ -83,13 +96,17 @@ impl Scenario {
         let Document {
             config,
             fsdi,
+            turns,
             lanes,
+            trace,
         } = document;
         let lanes = open_lanes(alloc, &config, lanes)?;
         Ok(Scenario {
             config,
             fsdi,
+            turns,
             lanes,
+            trace,
         })
     }
 }

@@ -1,9 +1,7 @@
 //! Documents with more than one fault: the first one in the order of the tables is told.
 
 use super::{CARD, COMBINATION, DOCUMENT, check_faults, check_refused};
-use scenario::DocKind::{
-    self, BadValue, Conflict, Missing, NotBuilt, TooMany, UnknownKey, WrongKind,
-};
+use scenario::DocKind::{self, BadValue, Conflict, Missing, TooMany, UnknownKey, WrongKind};
 use std::alloc::AllocGlobal;
 use std::process::Abort;
 use std::test::Fail;
@@ -46,7 +44,14 @@ fn keys_of_the_root_in_order(rt: HostRuntime) -> Result<(), Fail> {
     ];
     check_faults(&rt, "", DOCUMENT, &rows)?;
     let rows = [
-        ("version = 1\ntrace = 1\nturns = 1", NotBuilt, "turns", 0),
+        ("version = 1\ntrace = 1\nturns = 1", WrongKind, "turns", 0),
+        (
+            "version = 1\ntrace = 1\nturns = [1, 2]",
+            BadValue,
+            "turns[2]",
+            2,
+        ),
+        ("version = 1\ntrace = 1\nturns = [1]", WrongKind, "trace", 0),
         ("trace = 1\nturns = 1", Missing, "version", 0),
     ];
     check_faults(&rt, "", "version = 1", &rows)
@@ -353,8 +358,18 @@ fn kinds_before_lengths_before_elements(rt: HostRuntime) -> Result<(), Fail> {
             "lanes",
             9,
         ),
-        ("version = 1\nlanes = [{x = 1}, {}]", NotBuilt, "lanes", 2),
-        ("version = 1\nlanes = [{x = 1}]", UnknownKey, "lanes[1]", 1),
+        (
+            "version = 1\nlanes = [{x = 1}, {}]",
+            UnknownKey,
+            "lanes[1]",
+            1,
+        ),
+        (
+            "version = 1\nturns = 1\nlanes = [{x = 1}]",
+            UnknownKey,
+            "lanes[1]",
+            1,
+        ),
     ];
     check_faults(&rt, "", DOCUMENT, &rows)
 }

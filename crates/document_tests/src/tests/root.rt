@@ -1,7 +1,9 @@
 //! The keys of the root, and of a lane.
 
-use super::{DOCUMENT, array, changed, check_accepted, check_faults, check_limits, check_refused};
-use scenario::DocKind::{BadValue, Missing, NotBuilt, TooMany, UnknownKey, WrongKind};
+use super::{
+    DOCUMENT, LANE, array, changed, check_accepted, check_faults, check_limits, check_refused,
+};
+use scenario::DocKind::{BadValue, Missing, TooMany, UnknownKey, WrongKind};
 use scenario::{DocEnd, Scenario};
 use std::test::Fail;
 
@@ -71,23 +73,6 @@ fn frame_size_of_the_reader(rt: HostRuntime) -> Result<(), Fail> {
 }
 
 #[test]
-fn keys_that_are_not_built(rt: HostRuntime) -> Result<(), Fail> {
-    let rows = [
-        ("version = 1\nturns = []", NotBuilt, "turns", 0),
-        ("version = 1\nturns = [2]", NotBuilt, "turns", 0),
-        ("version = 1\ntrace = []", NotBuilt, "trace", 0),
-        (
-            "version = 1\ntrace = ['x 1 S 52 0 -']",
-            NotBuilt,
-            "trace",
-            0,
-        ),
-        ("version = 1\ntrace = 1", NotBuilt, "trace", 0),
-    ];
-    check_faults(&rt, "", VERSION, &rows)
-}
-
-#[test]
 fn unknown_keys_of_the_root(rt: HostRuntime) -> Result<(), Fail> {
     let rows = [
         ("version = 1\nzz = 1", UnknownKey, ".", 4),
@@ -114,14 +99,42 @@ fn lanes(rt: HostRuntime) -> Result<(), Fail> {
         ("version = 1\nlanes = [1]", WrongKind, "lanes", 0),
         ("version = 1\nlanes = [{}, []]", WrongKind, "lanes", 0),
         ("version = 1\nlanes = []", BadValue, "lanes", 0),
-        ("version = 1\nlanes = [{}, {}]", NotBuilt, "lanes", 2),
+        (
+            "version = 1\nlanes = [{}, {}]",
+            Missing,
+            "lanes[1].transactions",
+            0,
+        ),
     ];
     check_faults(&rt, "", DOCUMENT, &rows)?;
-    let wanted = [(8, NotBuilt, 8), (9, TooMany, 9), (100, TooMany, 100)];
-    for (count, kind, number) in wanted {
+    for (count, number) in [(9, 9), (10, 10), (100, 100)] {
         let lanes = array(&rt, "{}", count)?;
         let document = format!(in rt.alloc(); "version = 1\nlanes = {lanes}")?;
-        check_refused(&rt, document.as_str(), (kind, "lanes", number));
+        check_refused(&rt, document.as_str(), (TooMany, "lanes", number));
+    }
+    Ok(())
+}
+
+#[test]
+fn one_to_eight_lanes(rt: HostRuntime) -> Result<(), Fail> {
+    for count in 1..=8 {
+        let lanes = array(&rt, LANE, count)?;
+        let document = format!(in rt.alloc(); "version = 1\nlanes = {lanes}")?;
+        let scenario = Scenario::of_bytes(rt.alloc(), document.as_bytes()).ok();
+        let scenario = scenario.expect(&rt, "a document that is accepted");
+        assert_eq!(rt; scenario.lanes.len(), count);
+    }
+    let right = LANE;
+    let rows = [
+        ("{}", Missing, "lanes[3].transactions", 0),
+        ("{transactions = []}", BadValue, "lanes[3].transactions", 0),
+        ("{zz = 1}", UnknownKey, "lanes[3]", 1),
+    ];
+    for (lane, kind, path, number) in rows {
+        let document = format!(in rt.alloc();
+            "version = 1\nlanes = [{right}, {right}, {lane}, {{}}]"
+        )?;
+        check_refused(&rt, document.as_str(), (kind, path, number));
     }
     Ok(())
 }

@@ -18,9 +18,19 @@ pub fn edited(rt: &HostRuntime, text: &str, edits: &[(&str, &str)]) -> Result<St
 
 /// The run of a document is done, and leaves this report.
 pub fn check_report(rt: &HostRuntime, document: &str, report: &str) -> Result<(), Fail> {
-    let left = run(rt, &["run"], document.as_bytes(), &[], &[])?;
+    check_text(rt, &["run"], document, report)
+}
+
+/// What these words ask of a document is done, and leaves this text.
+pub fn check_text(
+    rt: &HostRuntime,
+    words: &[&str],
+    document: &str,
+    text: &str,
+) -> Result<(), Fail> {
+    let left = run(rt, words, document.as_bytes(), &[], &[])?;
     let written = std::str::from_utf8(left.text())?;
-    if left.number == 0 && left.said.as_str() == "" && written == report {
+    if left.number == 0 && left.said.as_str() == "" && written == text {
         return Ok(());
     }
     let other = format!(in rt.alloc(); "{} {} {written}", left.number, left.said.as_str())?;

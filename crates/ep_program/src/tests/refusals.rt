@@ -29,8 +29,8 @@ fn documents_that_are_refused(rt: HostRuntime) -> Result<(), Fail> {
         ),
         (
             "version = 1",
-            "version = 1\nturns = [1]",
-            "ep_program: bad document: not-built at turns (0)",
+            "version = 1\nturns = [1, 2]",
+            "ep_program: bad document: bad-value at turns[2] (2)",
         ),
     ];
     let text = purchase(&rt, NAME)?;
