@@ -66,6 +66,10 @@ room_by : (r : Bool) (ask : Asked) (f : Field) → (field_send (if r then field_
 room_by true ask f = refl
 room_by false ask f = refl
 
+-- a field's reset comes about
+no_failure : true ≡ false → ⊥
+no_failure e = cc
+
 -- what a field answers to an exchange
 by_reset : (r : Bool) (ask : Asked) (f g : Field) (h : Hearing) → ExchangesBy (told field) r f ask (Some h) g
     → field_send (if r then field_reset f else f) ask.wave ask.bytes ≡ (Some h, g)
@@ -76,8 +80,7 @@ by_reset true ask f g h (true, u, is, x) =
     subst (λ v. field_send v ask.wave ask.bytes ≡ (Some h, g)) (sym same) x
 by_reset true ask f g h (false, u, is, x) =
     let e : (true, field_reset f) ≡ (false, u) = is in
-    let never : true ≡ false = ap (λ (p : Bool × Field). p.0) e in
-    absurd (let clash : ⊥ = cc in clash)
+    absurd (no_failure (ap (λ (p : Bool × Field). p.0) e))
 
 pub heard_is : (ask : Asked) (f g : Field) (h : Hearing) → Exchanges (told field) f ask (Some h) g → or_silence (field_answers ask f).0 ≡ h
 heard_is ask f g h x = ap (λ (p : Option Hearing × Field). or_silence p.0) (by_reset ask.reset ask f g h x)

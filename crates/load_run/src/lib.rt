@@ -10,3 +10,6 @@ mod tally;
 pub use counts::Counts;
 pub use load::run_load;
 pub use summary::summary_line;
+
+#[cfg(test)]
+mod tests;
