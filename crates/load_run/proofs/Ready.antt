@@ -1,5 +1,5 @@
 -- The transactions of an accepted document can be counted.
-use Rattle.std.proofs.Common.{◌≡◌, ℕ, ◌+◌, ◌*◌, ◌<◌, ◌≤◌, ◌==◌, List, [], ◌∷◌, length, map, filter, refl, ap, ◌∙◌, sym, subst, arith}
+use Rattle.std.proofs.Common.{◌≡◌, ℕ, ◌+◌, ◌*◌, ◌≤◌, ◌==◌, List, [], ◌∷◌, length, map, filter, refl, ap, ◌∙◌, sym, subst, arith}
 use Rattle.std.specs.Prelude.{All}
 use Rattle.std.proofs.lemmas.List.{length-map}
 use Rattle.std.proofs.lemmas.List.Sums.{length-filter}
@@ -9,7 +9,7 @@ use Rattle.ep_base.specs.Kernel.{Script, steps_left}
 use Rattle.ep_base.specs.PreProcessing.{prepared_one, prepared}
 use Rattle.scenario.specs.Accepted.{IsLawful, IsLane, IsAccepted}
 use Rattle.scenario.specs.Plan.{Transaction, Plan}
-use Rattle.scenario.specs.Scene.{Work, Scene, room_of, work_of, scene_of}
+use Rattle.scenario.specs.Scene.{Work, Scene, work_of, scene_of}
 use Rattle.load_run.specs.Counts.{Counts, added}
 use Rattle.load_run.specs.Following.{CanCount, all_in}
 use Rattle.load_run.specs.Load.{IsOfDocument}

@@ -12,23 +12,22 @@ use Rattle.ep_base.specs.Medium.{told, ExchangesBy, Exchanges}
 use Rattle.ep_base.specs.PreProcessing.{Ready}
 use Rattle.ep_base.specs.Said.{Said, Tells, Apdu, End, EndLink, EndBreach}
 use Rattle.ep_base.specs.Talk.{Talk}
-use Rattle.ep_base.specs.TransportRun.{HearEnd}
 use Rattle.entry_session.specs.Turns.{View, Answers}
 use Rattle.entry_session.specs.declared.turn.Turn.{Turn}
 use Rattle.entry_session.specs.declared.turn.Turn.TheVariants as turns
-use Rattle.law_lane.specs.Standing.{Standing, Stopped, started, asked_by, after_hearing, events_of}
-use Rattle.law_lane.specs.Exchanges.{Exchange, Lane, field_answers, or_silence, exchanged, goes_by, lane_step, lane_after, opened_lane}
+use Rattle.law_lane.specs.Standing.{Standing, started, asked_by, after_hearing, events_of}
+use Rattle.law_lane.specs.Exchanges.{Exchange, Lane, field_answers, or_silence, exchanged, goes_by, lane_step, opened_lane}
 use Rattle.law_run.proofs.Scripting.{scripts_fall_lem}
 use Rattle.law_run.specs.Bounds.{apdus, log_bound}
-use Rattle.law_turns.specs.Counting.{IsBounded, IsOverAfter, exchanges_most}
+use Rattle.law_turns.specs.Counting.{IsOverAfter, exchanges_most}
 use Rattle.law_turns.specs.LaneText.{Job}
-use Rattle.law_turns.specs.Telling.{job_after, IsOverAt}
+use Rattle.law_turns.specs.Telling.{job_after}
 use Rattle.law_turns.proofs.Bounding.{transactions_are_bounded_law}
 use Rattle.law_turns.proofs.Counting.{every_exchange_counts_law}
 use Rattle.law_turns.proofs.Stepping.{times_end}
 use Rattle.session_event.specs.Event.{said_of_end}
 use Rattle.session_event.specs.declared.event.End as ends
-use Rattle.load_run.specs.Counts.{Counts, nothing, outcome_in, last_outcome, counted_by, counts_at, IsCounted}
+use Rattle.load_run.specs.Counts.{Counts, nothing, outcome_in, last_outcome, counted_by, IsCounted}
 use Rattle.load_run.specs.Following.{Follows, IsCountable}
 use Rattle.load_run.proofs.Sending.{sends_commands}
 
@@ -109,7 +108,7 @@ scaled a b c d x y = grind arith
 pub few_exchanges : (ones : List Ready) (k : Scripted) (f : Field) → IsCountable ones k f → most_of ones k ≤ 13531956
 few_exchanges ones k f can =
     let p : (1 + scripted.restarts k) * (1 + 28 * length ones) ≤ 5 * 449 =
-        scaled (1 + scripted.restarts k) 5 (1 + 28 * length ones) 449 (omega (arith, can.restarts)) (omega (arith, can.combinations)) in
+    scaled (1 + scripted.restarts k) 5 (1 + 28 * length ones) 449 (omega (arith, can.restarts)) (omega (arith, can.combinations)) in
     omega (arith, p, can.restarts, can.commands)
 
 -- ---- the transaction after so many exchanges

@@ -7,7 +7,7 @@ use Rattle.ep_base.specs.Configuration.{Settings}
 use Rattle.ep_base.specs.EntryPoint.{transaction}
 use Rattle.ep_base.specs.Kernel.{scripted}
 use Rattle.ep_base.specs.PreProcessing.{prepared}
-use Rattle.ep_base.specs.Said.{Told, Start, Pre, Notice, Card, Candidates, Activate, Outcome, Finished, NoCard, Said, Tells, Apdu, End, EndLink, EndBreach}
+use Rattle.ep_base.specs.Said.{Start, Pre, Notice, Card, Candidates, Activate, Outcome, Finished, NoCard, Said, Tells, Apdu, End, EndLink, EndBreach}
 use Rattle.law_lane.specs.Standing.{events_of}
 use Rattle.law_lane.specs.Exchanges.{Lane}
 use Rattle.law_run.specs.Bounds.{apdus}
@@ -125,3 +125,7 @@ pub record IsTotal (fsdi : ℕ) (js : List Job) (c : Counts) : Type 0 where
   pub each : List Counts
   pub counted : AreCounted fsdi js each
   pub sum : c ≡ total each
+
+-- Transactions have one such total alone: what each comes to is the same after every count of exchanges at which it is over (this project's own).
+abbrev pub OneTotal : Type 0
+OneTotal = (fsdi : ℕ) (js : List Job) (c d : Counts) → IsTotal fsdi js c → IsTotal fsdi js d → c ≡ d

@@ -53,12 +53,7 @@ fn run_lanes(
 }
 
 // Runs the transactions of a lane.
-fn run_lane(
-    session: &mut Session<Scripts>,
-    config: &Config,
-    fsdi: u8,
-    jobs: Vec<Job>,
-) -> Counts
+fn run_lane(session: &mut Session<Scripts>, config: &Config, fsdi: u8, jobs: Vec<Job>) -> Counts
     requires closed { is_open (view_in session.old) ≡ false }
     requires code { fsdi < 16 }
     requires countable { All (CanCount config.now) jobs.items }

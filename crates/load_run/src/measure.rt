@@ -20,12 +20,7 @@ use rf_frame::exchange;
 use scenario::{Field, Job, Scripts};
 
 /// The numbers of a transaction, run to its end one exchange at a time over the field of its own cards.
-pub(crate) fn measure(
-    session: &mut Session<Scripts>,
-    config: &Config,
-    fsdi: u8,
-    job: Job,
-) -> Counts
+pub(crate) fn measure(session: &mut Session<Scripts>, config: &Config, fsdi: u8, job: Job) -> Counts
     requires closed { is_open (view_in session.old) ≡ false }
     requires code { fsdi < 16 }
     requires countable { CanCount config.now job }
@@ -99,12 +94,7 @@ fn begin(
 }
 
 // Makes one exchange.
-fn follow(
-    session: &mut Session<Scripts>,
-    field: &mut Field,
-    ask: &Ask,
-    tally: &mut Tally,
-) -> Turn
+fn follow(session: &mut Session<Scripts>, field: &mut Field, ask: &Ask, tally: &mut Tally) -> Turn
     requires opened { is_open (view_in session.old) ≡ true }
     requires room { tally.old.apdus + 24 < 2 ^ 64 }
     ensures field { field_of field.new ≡ (field_answers ask.now (field_of field.old)).1 }

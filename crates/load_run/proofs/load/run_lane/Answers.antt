@@ -1,5 +1,4 @@
-use Rattle.std.proofs.Common.{rules, arith, ◌≡◌, ◌∙◌, ap, sym, subst, All, length, map}
-use Rattle.std.specs.Vec.Iter.{into_iter_items}
+use Rattle.std.proofs.Common.{arith, ◌∙◌, ap, sym, subst, All, length, map}
 use Rattle.std.proofs.lemmas.List.Elements.{All-tail}
 use Rattle.load_run.specs.Counts.{job_of}
 use Rattle.load_run.specs.Following.{CanCount}

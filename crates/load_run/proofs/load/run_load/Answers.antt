@@ -1,5 +1,4 @@
-use Rattle.std.proofs.Common.{◌≤◌, ◌≡◌, All, length, arith, subst}
-use Rattle.std.proofs.lemmas.List.{length-map}
+use Rattle.std.proofs.Common.{◌≤◌, All, length}
 use Rattle.load_run.specs.Following.{CanCount}
 use Rattle.load_run.proofs.Ready.{ready, all_map}
 use Rattle.load_run.proofs.load.run_load.Goals as goal

@@ -1,8 +1,8 @@
-use Rattle.std.proofs.Common.{◌≡◌, arith}
+use Rattle.std.proofs.Common.{arith}
 use Rattle.kernel_port.specs.Scripts.{scripted_of}
 use Rattle.rf_field.specs.Fields.{field_of}
 use Rattle.load_run.specs.Following.{view_in}
-use Rattle.load_run.proofs.Running.{turn_at, some_left, starts_at, next_at, ended_at, few_exchanges}
+use Rattle.load_run.proofs.Running.{turn_at, some_left, starts_at, next_at, ended_at}
 use Rattle.load_run.proofs.measure.run.Goals as goal
 
 pub exchanges-init : goal.exchanges-init
@@ -30,7 +30,7 @@ pub exchanges-smaller : goal.exchanges-smaller
 exchanges-smaller c =
     let stands = turn_at _ _ _ _ _ _ _ _ _ _ _ c.exchanges.turn _ c.in-Ask.is c.exchanges.invariant.at in
     let some = some_left c.args.prepared.now.txn_type c.args.prepared.now.amount c.args.prepared.now.list (scripted_of c.args.scripts) (field_of c.args.field) c.args.fsdi
-        (view_in c.exchanges.session) (field_of c.exchanges.field) c.exchanges.tally.apdus c.exchanges.tally.outcome c.exchanges.made c.in-Ask.ask stands.answers stands.left in
+    (view_in c.exchanges.session) (field_of c.exchanges.field) c.exchanges.tally.apdus c.exchanges.tally.outcome c.exchanges.made c.in-Ask.ask stands.answers stands.left in
     omega (arith, some)
 
 pub returns-in-Ended-clause-counted : goal.returns-in-Ended-clause-counted

@@ -1,4 +1,4 @@
-use Rattle.std.proofs.Common.{◌≡◌, ◌∙◌}
+use Rattle.std.proofs.Common.{◌∙◌}
 use Rattle.ep_load.specs.Load.{generated}
 use Rattle.load_run.proofs.tests.counts.Goals as goal
 
