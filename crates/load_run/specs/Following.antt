@@ -20,8 +20,8 @@ use Rattle.load_run.specs.Counts.{Counts, last_outcome}
 abbrev pub all_in : Counts → ℕ
 all_in c = c.approved + c.declined + c.online + c.ended + c.link + c.nocard + c.apdus + c.executed + c.exchanges
 
--- A transaction whose numbers fit: its kernels send commands, follow at most four scripts of at most 64 steps, at most 16 Combinations are of its
--- type, and its log has room for at most 2310 records (this project's profile).
+-- A transaction whose numbers fit: its kernels send commands, and have at most 4 restarts and 64 commands left; at most 16 Combinations are of its
+-- type; and its log has room for at most 2310 records (this project's profile).
 pub record IsCountable (ones : List Ready) (k : Scripted) (f : Field) : Type 0 where
   pub sends : ScriptedSends k
   pub restarts : scripted.restarts k ≤ 4

@@ -46,27 +46,26 @@ fn one_transaction_of_seed_1(rt: HostRuntime) -> Result<(), Fail> {
     Ok(())
 }
 
-/// The largest load gives the same line twice, and each of its transactions ended in one of the six ways.
+/// The largest load, whose numbers a model of the rules in another language gave too. A second run gives the same line.
 #[test]
 fn four_hundred_transactions(rt: HostRuntime) -> Result<(), Fail> {
-    let first = counts(rt.alloc(), 7, 400)?;
-    let second = counts(rt.alloc(), 7, 400)?;
-    assert_eq!(rt;
-        line(7, 400, &first).as_str(),
-        line(7, 400, &second).as_str()
-    );
-    let ends = [
-        first.approved,
-        first.declined,
-        first.online,
-        first.ended,
-        first.link,
-        first.nocard,
-    ];
-    let mut all = 0u64;
-    for count in ends {
-        all = all.saturating_add(count);
+    for _run in 0..2 {
+        let counts = counts(rt.alloc(), 7, 400)?;
+        assert_eq!(rt;
+            line(7, 400, &counts).as_str(),
+            "load seed=7 count=400 approved=178 declined=97 online=90 ended=0 link=31 nocard=4 apdus=1415 executed=1420 exchanges=5930\n"
+        );
     }
-    assert_eq!(rt; all, 400);
+    Ok(())
+}
+
+/// A load whose transactions don't fill all lanes alike, with numbers of the same model.
+#[test]
+fn a_hundred_transactions_of_seed_5(rt: HostRuntime) -> Result<(), Fail> {
+    let counts = counts(rt.alloc(), 5, 100)?;
+    assert_eq!(rt;
+        line(5, 100, &counts).as_str(),
+        "load seed=5 count=100 approved=50 declined=20 online=22 ended=0 link=7 nocard=1 apdus=373 executed=374 exchanges=1535\n"
+    );
     Ok(())
 }
