@@ -1,0 +1,4 @@
+pub mod Counts
+pub mod Following
+pub mod Load
+pub mod Summary
