@@ -1,12 +1,10 @@
 -- The text of lanes whose transactions may begin has the promise, where the probe gives on what it gets.
-use Rattle.std.proofs.Common.{◌≡◌, ℕ, zero, suc, ◌+◌, Bool, true, false, List, [], ◌∷◌, length, map, All, refl, sym, ap, subst, ◌∙◌, Option, Some, None}
+use Rattle.std.proofs.Common.{◌≡◌, ℕ, zero, suc, ◌+◌, Bool, true, false, List, [], ◌∷◌, length, map, All, refl, sym, ap, subst, ◌∙◌}
 use Rattle.std.specs.Prelude.{◌==◌, if◌then◌else◌}
 use Rattle.std.proofs.lemmas.List.Elements.{All-nil, All-head, All-tail}
 use Rattle.ep_base.specs.Configuration.{Settings}
-use Rattle.ep_base.specs.Hearing.{Asked, Hearing}
 use Rattle.ep_base.specs.Kernel.{scripted}
 use Rattle.ep_base.specs.Lanes.{times}
-use Rattle.law_lane.specs.Standing.{asked_by}
 use Rattle.law_lane.specs.Exchanges.{field_answers, or_silence}
 use Rattle.law_radio.proofs.Closings.{transaction_closes_law}
 use Rattle.law_run.specs.Bounds.{log_bound}
@@ -14,13 +12,10 @@ use Rattle.law_run.proofs.Bounding.{few_commands_lem}
 use Rattle.law_run.proofs.Scripting.{scripts_fall_lem}
 use Rattle.law_transaction.proofs.Talking.{scripted_lem}
 use Rattle.law_turns.specs.LaneText.{Job}
-use Rattle.law_turns.specs.Order.{Order, next_turn}
-use Rattle.law_turns.specs.Turning.{IsLane}
-use Rattle.law_turns.specs.WholeRun.{ProbeSteps, open_probe, Run, is_live, hears, asks, turn_of, takes_turn, run_step, opened_run, run_after}
-use Rattle.law_turns.specs.Pieces.{written, of_lane, pieces_after}
+use Rattle.law_turns.specs.WholeRun.{ProbeSteps, open_probe, Run, hears, asks, turn_of, takes_turn, run_step, opened_run, run_after}
 use Rattle.law_turns.specs.Telling.{jobs_of, AreTold}
 use Rattle.law_turns.specs.Ending.{HasEnded}
-use Rattle.law_turns.specs.Keeping.{Cards, IsReady, AreReady}
+use Rattle.law_turns.specs.Keeping.{IsReady, AreReady}
 use Rattle.law_turns.proofs.Apart.{lanes_apart_law}
 use Rattle.law_turns.proofs.Ending.{one_end_law}
 use Rattle.law_turns.proofs.Keeping.{told_keep_law}

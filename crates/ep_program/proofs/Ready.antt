@@ -1,6 +1,6 @@
 -- The transactions of an accepted document may begin, and a run of them that was written is served.
-use Rattle.std.proofs.Common.{◌≡◌, ℕ, ◌+◌, ◌<◌, ◌≤◌, ◌==◌, ◌*◌, Bool, List, [], ◌∷◌, length, map, filter, refl, ap, ◌∙◌, sym, subst, arith, Some, true}
-use Rattle.std.specs.Prelude.{All, is_some}
+use Rattle.std.proofs.Common.{◌≡◌, ℕ, ◌+◌, ◌<◌, ◌≤◌, ◌==◌, ◌*◌, Bool, List, [], ◌∷◌, length, map, filter, refl, ap, ◌∙◌, sym, subst, arith, Some}
+use Rattle.std.specs.Prelude.{All}
 use Rattle.std.specs.declared.option.Option.{Option}
 use Rattle.std.specs.Io.KnownBytes.{Appends}
 use Rattle.std.proofs.lemmas.List.{length-map}
@@ -23,7 +23,7 @@ use Rattle.scenario.specs.Accepted.{IsLawful, IsLane, IsAccepted}
 use Rattle.scenario.specs.Plan.{Transaction, Plan}
 use Rattle.scenario.specs.Scene.{Work, Scene, room_of, work_of, scene_of}
 use Rattle.ep_program.specs.Headline.{jobs_in, IsFresh, IsReady}
-use Rattle.ep_program.specs.Promise.{GivesOn, HasPromise}
+use Rattle.ep_program.specs.Promise.{HasPromise}
 use Rattle.ep_program.specs.Serve.{Outside, IsTextOf, Writes, WritesPart, Gives, Opens, Serves, Runs}
 use Rattle.ep_program.specs.Words.{is_traced}
 use Rattle.ep_program.specs.declared.status.Status.{Status}

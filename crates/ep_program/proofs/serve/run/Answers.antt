@@ -1,4 +1,4 @@
-use Rattle.std.proofs.Common.{◌≡◌, ◌≤◌, ◌∙◌, List, All, length, ap, subst, sym}
+use Rattle.std.proofs.Common.{◌≤◌, ◌∙◌, List, All, length, ap, subst, sym}
 use Rattle.ep_base.specs.Kernel.{Scripted}
 use Rattle.ep_lanes.specs.Lanes.{Held}
 use Rattle.scenario.specs.Scene.{Work, Scene}
