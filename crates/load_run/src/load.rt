@@ -2,7 +2,7 @@
 ghost use Rattle.std.specs.Prelude.{◌≡◌, ◌+◌, ◌*◌, ◌<◌, ◌≤◌, ◌^◌, All, false, length, map};
 ghost use Rattle.std.specs.List.{flat_map};
 ghost use Rattle.entry_session.specs.Turns.{is_open};
-ghost use Rattle.load_run.specs.Counts.{IsTotal, job_of};
+ghost use Rattle.load_run.specs.Counts.{IsTotal, job_of, jobs_in};
 ghost use Rattle.load_run.specs.Following.{CanCount, all_in, view_in};
 ghost use Rattle.load_run.specs.Load.{IsOfDocument};
 
@@ -23,7 +23,7 @@ pub fn run_load(
 ) -> Counts
     requires closed { is_open (view_in session.old) ≡ false }
     requires document { IsOfDocument config.now fsdi (map (λ lane. lane.items) lanes.items) }
-    ensures total { IsTotal fsdi (map (job_of config.now) (flat_map (λ lane. lane.items) lanes.items)) result }
+    ensures total { IsTotal fsdi (jobs_in config.now (map (λ lane. lane.items) lanes.items)) result }
     ensures closed { is_open (view_in session.new) ≡ false }
 {
     run_lanes(session, config, fsdi, lanes)
