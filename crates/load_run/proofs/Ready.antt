@@ -32,7 +32,9 @@ steps_few (s ∷ scripts) all =
     omega (arith, first, rest)
 
 few_records : (r n c : ℕ) → r ≤ 4 → n ≤ 16 → c ≤ 64 → (1 + r) * (1 + 28 * n) + c + 1 ≤ 2310
-few_records r n c x y z = let p : (1 + r) * (1 + 28 * n) ≤ 5 * 449 = scaled (1 + r) 5 (1 + 28 * n) 449 (omega (arith, x)) (omega (arith, y)) in omega (arith, p, z)
+few_records r n c x y z =
+    let p : (1 + r) * (1 + 28 * n) ≤ 5 * 449 = scaled (1 + r) 5 (1 + 28 * n) 449 (omega (arith, x)) (omega (arith, y)) in
+    omega (arith, p, z)
 
 can_count : (settings : Settings) (t : Transaction) → AreSettings settings → IsLawful t → CanCount settings (work_of settings t)
 can_count settings t are lawful =

@@ -1,5 +1,5 @@
 -- What transactions come to in numbers (this project's own).
-use Rattle.std.specs.Prelude.{◌≡◌, ℕ, ◌+◌, List, [], ◌∷◌, length, Option, Some, None}
+use Rattle.std.specs.Prelude.{◌≡◌, ℕ, ◌+◌, List, [], ◌∷◌, length, map, Option, Some, None}
 use Rattle.std.specs.List.{flat_map, last_or}
 use Rattle.ep_base.specs.declared.outcome.OutcomeKind.{OutcomeKind}
 use Rattle.ep_base.specs.declared.outcome.OutcomeKind.TheVariants.{SelectNext, TryAgain, Approved, Declined, OnlineRequest, TryAnother, EndApplication}
@@ -97,6 +97,10 @@ job_of settings w = record {
   talk = transaction scripted w.txn_type w.amount (prepared settings w.txn_type w.amount) w.scripts;
   field = w.field;
 }
+
+-- The transactions of all lanes, one lane after another (this project's own).
+abbrev pub jobs_in : Settings → List (List Work) → List Job
+jobs_in settings lanes = map (job_of settings) (flat_map (λ (ws : List Work). ws) lanes)
 
 -- The numbers of a transaction after these exchanges (this project's own).
 abbrev pub counts_at : Job → Lane → Counts
