@@ -1,4 +1,5 @@
 //! One lane and two lanes, by turns, with their trace and without it, and a probe that alters what is heard.
+
 use super::edits::{check_text, edited};
 use super::{NAME, probed, purchase};
 use ep_lanes::{Ask, Heard, Probe};
