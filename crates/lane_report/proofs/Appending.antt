@@ -55,7 +55,8 @@ grown : (ss : List ℕ) (v : Option (List ℕ)) (xs ys : List ℕ) → Appends (
 grown ss None xs ys h = absurd h
 grown ss (Some vs) xs ys h = ap Some (h ∙ append_assoc ss xs ys)
 
-pub with_more : (start w v : Option (List ℕ)) (xs ys : List ℕ) → w ≡ with_text start xs → Appends w v ys → is_some v ≡ is_some w → v ≡ with_text start (xs ++ ys)
+pub with_more : (start w v : Option (List ℕ)) (xs ys : List ℕ) → w ≡ with_text start xs → Appends w v ys → is_some v ≡ is_some w
+    → v ≡ with_text start (xs ++ ys)
 with_more None w v xs ys e wrote told = is_none v (told ∙ ap is_some e)
 with_more (Some ss) w v xs ys e wrote told = grown ss v xs ys (subst (λ u. Appends u v ys) e wrote)
 

@@ -11,8 +11,10 @@ abbrev pub invariant-each : goal.invariant-each
 invariant-each g l =
     let K = g.K.Sink in
     record {
-      ok : (w : Option (List ℕ)) → Appends (K.written l.output) w (log_lines l.lane l.txn l.rest) → Appends (K.written l.fn.output) w (log_lines l.lane l.txn l.fn.records);
-      err : (w : Option (List ℕ)) → AppendsPrefix (K.written l.output) w (log_lines l.lane l.txn l.rest) → AppendsPrefix (K.written l.fn.output) w (log_lines l.lane l.txn l.fn.records);
+      ok : (w : Option (List ℕ)) → Appends (K.written l.output) w (log_lines l.lane l.txn l.rest)
+          → Appends (K.written l.fn.output) w (log_lines l.lane l.txn l.fn.records);
+      err : (w : Option (List ℕ)) → AppendsPrefix (K.written l.output) w (log_lines l.lane l.txn l.rest)
+          → AppendsPrefix (K.written l.fn.output) w (log_lines l.lane l.txn l.fn.records);
       told : is_some (K.written l.output) ≡ is_some (K.written l.fn.output);
       later : K.faults l.fn.output ≤ K.faults l.output;
     }
