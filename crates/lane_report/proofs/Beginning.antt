@@ -1,14 +1,14 @@
 -- What is written when a transaction is begun, and what of a lane's text comes after it.
-use Rattle.std.proofs.Common.{◌≡◌, ℕ, ◌+◌, List, [], ◌∷◌, ◌++◌, map, refl, sym, ap, subst, ◌∙◌, true, false, Bool}
+use Rattle.std.proofs.Common.{◌≡◌, ℕ, ◌+◌, List, [], ◌∷◌, ◌++◌, map, refl, sym, ap, subst, ◌∙◌, true, false}
 use Rattle.std.specs.Prelude.{Option, Some, None, is_some}
 use Rattle.std.proofs.lemmas.List.{append-nil}
 use Rattle.ep_base.specs.Configuration.{Settings}
 use Rattle.ep_base.specs.Hearing.{Asked}
-use Rattle.ep_base.specs.Kernel.{Scripted, scripted}
+use Rattle.ep_base.specs.Kernel.{Scripted}
 use Rattle.ep_base.specs.PreProcessing.{prepared}
 use Rattle.ep_base.specs.Said.{Said}
 use Rattle.ep_base.specs.Talk.{Talk}
-use Rattle.ep_base.specs.WrittenText.{event_lines, log_lines}
+use Rattle.ep_base.specs.WrittenText.{event_lines}
 use Rattle.entry_session.specs.Perfect.{talk_of}
 use Rattle.law_lane.specs.Standing.{asked_by, events_of, started}
 use Rattle.law_turns.specs.LaneText.{Job, Piece, opens, opens_by}
@@ -19,7 +19,7 @@ use Rattle.ep_lanes.specs.declared.exchange.Turned.TheVariants.{Goes, Ended}
 use Rattle.pre_processing.specs.Preparation.{Preparation}
 use Rattle.scenario.specs.Scene.{Work}
 use Rattle.lane_report.specs.Begun.{BegunLane, asked_first, begun_text, closing_text}
-use Rattle.lane_report.specs.Shows.{FitsLane, ShowsGoing, ShowsLane}
+use Rattle.lane_report.specs.Shows.{FitsLane, ShowsLane}
 use Rattle.lane_report.specs.Works.{LaneWork, job_of, jobs_of, preparation, talk_in}
 
 same_preparation : (settings : Settings) (w : Work) (p : Preparation) → p.list ≡ prepared settings w.txn_type w.amount → p.txn_type ≡ w.txn_type

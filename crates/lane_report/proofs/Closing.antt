@@ -1,21 +1,21 @@
 -- What follows once a transaction has ended.
 use Rattle.std.proofs.Common.{◌≡◌, ℕ, ◌+◌, List, ◌++◌, map, sym, ap, subst, ◌∙◌}
-use Rattle.std.specs.Prelude.{Option, Some, None, Result, Ok, Err, OnOk, OnErr, unwrap_or}
+use Rattle.std.specs.Prelude.{Option, Some, Result, Ok, Err, OnOk, OnErr, unwrap_or}
 use Rattle.std.specs.Io.KnownBytes.{Appends}
 use Rattle.ep_base.specs.Configuration.{Settings}
 use Rattle.ep_base.specs.Field.{Field}
 use Rattle.ep_base.specs.Io.{AppendsPrefix}
 use Rattle.ep_base.specs.Kernel.{Scripted}
 use Rattle.ep_base.specs.WrittenText.{log_lines}
-use Rattle.ep_base.proofs.Known.{appends_more, appends_none}
+use Rattle.ep_base.proofs.Known.{appends_more}
 use Rattle.law_lane.specs.Exchanges.{Lane}
 use Rattle.law_lane.specs.Standing.{asked_by}
-use Rattle.law_turns.specs.LaneText.{Going, Piece, Job, after_text, goes_on, opens}
+use Rattle.law_turns.specs.LaneText.{Going, Piece, after_text, goes_on, opens}
 use Rattle.ep_lanes.specs.Lanes.{LaneHeld}
 use Rattle.ep_lanes.specs.declared.exchange.Turned.{Turned}
-use Rattle.ep_lanes.specs.declared.exchange.Turned.TheVariants.{Goes, Ended}
+use Rattle.ep_lanes.specs.declared.exchange.Turned.TheVariants.{Ended}
 use Rattle.lane_report.specs.Shows.{ShowsLane}
-use Rattle.lane_report.specs.Turned.{GoesOn, GoesOnPart, IsAfter, Wrote}
+use Rattle.lane_report.specs.Turned.{IsAfter, Wrote}
 use Rattle.lane_report.specs.Works.{LaneWork, job_of, jobs_of}
 use Rattle.lane_report.proofs.Appending.{prefix_front, prefix_more}
 use Rattle.lane_report.proofs.Beginning.{here}

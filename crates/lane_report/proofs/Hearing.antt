@@ -1,5 +1,5 @@
 -- An exchange of a lane over its field, as a run of lanes makes it.
-use Rattle.std.proofs.Common.{◌≡◌, ℕ, ◌+◌, Bool, true, false, List, ◌++◌, map, length, drop, sym, ap, subst, ◌∙◌, append_assoc}
+use Rattle.std.proofs.Common.{◌≡◌, ℕ, Bool, true, false, List, ◌++◌, map, length, drop, sym, ap, subst, ◌∙◌, append_assoc}
 use Rattle.std.specs.Prelude.{Option, Some, None, if◌then◌else◌}
 use Rattle.std.specs.Io.KnownBytes.{Appends}
 use Rattle.std.proofs.Math.Seq.{drop-append_seam}
@@ -12,7 +12,7 @@ use Rattle.ep_base.specs.Medium.{told, AfterReset, ExchangesBy, Exchanges}
 use Rattle.ep_base.specs.Said.{Said}
 use Rattle.ep_base.specs.WrittenText.{event_lines}
 use Rattle.law_lane.specs.Exchanges.{Lane, field_answers, or_silence}
-use Rattle.law_lane.specs.Standing.{asked_by, events_of, after_hearing}
+use Rattle.law_lane.specs.Standing.{asked_by, events_of}
 use Rattle.law_turns.specs.LaneText.{Going, Piece, added, goes_on, heard_lane, trace_part}
 use Rattle.law_turns.specs.WholeRun.{ProbeSteps}
 use Rattle.ep_lanes.specs.Lanes.{Held, LaneHeld, Made, lane_of}
@@ -21,7 +21,7 @@ use Rattle.ep_lanes.specs.Turns.{Makes}
 use Rattle.ep_lanes.specs.declared.exchange.Turned.{Turned}
 use Rattle.ep_lanes.proofs.Standing.{asks_then}
 use Rattle.lane_report.specs.Shows.{ShowsGoing, Tells}
-use Rattle.lane_report.specs.Turned.{HeardTurn, IsAfter, LaneState, TurnWrote, Wrote, heard_by, turn_piece}
+use Rattle.lane_report.specs.Turned.{HeardTurn, IsAfter, TurnWrote, Wrote, heard_by, turn_piece}
 use Rattle.lane_report.specs.Works.{LaneWork, job_of}
 use Rattle.lane_report.proofs.Appending.{whole_next, part_next, part_front}
 use Rattle.lane_report.proofs.Closing.{some_same}

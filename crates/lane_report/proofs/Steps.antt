@@ -1,5 +1,5 @@
 -- A turn of a lane is the next exchange of each run that the lanes show.
-use Rattle.std.proofs.Common.{◌≡◌, ◌≢◌, ⊎_elim, ℕ, ◌==◌, ◌≤◌, Bool, true, false, List, ◌++◌, length, refl, sym, ap, subst, ◌∙◌}
+use Rattle.std.proofs.Common.{◌≡◌, ◌≢◌, ⊎_elim, ℕ, ◌==◌, ◌≤◌, Bool, true, false, List, length, refl, sym, ap, subst, ◌∙◌}
 use Rattle.std.specs.Prelude.{Option, Some, None, is_some, if◌then◌else◌}
 use Rattle.std.proofs.lemmas.Bool.Decides.{eqb_tells}
 use Rattle.ep_base.specs.Configuration.{Settings}
@@ -16,8 +16,8 @@ use Rattle.ep_lanes.specs.Probing.{ProbeAnswers}
 use Rattle.ep_lanes.proofs.Numbering.{live_there}
 use Rattle.ep_lanes.proofs.Ordering.{same_turn, tells_live}
 use Rattle.ep_lanes.proofs.Standing.{asks_then}
-use Rattle.lane_report.specs.Shows.{Fits, FitsLane, ReportState, Shows, ShowsGoing, ShowsLane, Tells}
-use Rattle.lane_report.specs.Turned.{LaneCut, LaneState, LaneTurned, TurnCut, TurnTaken, TurnWrote, heard_by, turn_piece}
+use Rattle.lane_report.specs.Shows.{Fits, FitsLane, ReportState, Shows, ShowsGoing, ShowsLane}
+use Rattle.lane_report.specs.Turned.{LaneCut, LaneTurned, TurnCut, TurnTaken, TurnWrote, heard_by, turn_piece}
 use Rattle.lane_report.specs.Works.{LaneWork, work_of}
 use Rattle.lane_report.proofs.Appending.{with_more, wrote_since, prefix_more}
 

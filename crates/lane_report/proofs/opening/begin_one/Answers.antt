@@ -1,4 +1,3 @@
-use Rattle.std.proofs.Common.{◌≡◌}
 use Rattle.lane_report.proofs.Appending.{whole_next, part_next, part_front}
 use Rattle.lane_report.proofs.Beginning.{first_text}
 use Rattle.lane_report.proofs.opening.begin_one.Goals as goal

@@ -1,4 +1,4 @@
-use Rattle.std.proofs.Common.{◌≡◌, ◌∙◌, ap, sym}
+use Rattle.std.proofs.Common.{◌∙◌, ap}
 use Rattle.ep_base.specs.Field as plain
 use Rattle.rf_field.specs.Fields.{field_of}
 use Rattle.lane_report.proofs.Closing.{some_same, closed_whole, closed_part}

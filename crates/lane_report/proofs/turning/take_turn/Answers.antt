@@ -1,4 +1,4 @@
-use Rattle.std.proofs.Common.{arith, ◌≡◌, ◌-◌, ◌∙◌, refl, sym, ap, subst, is_some, slice_index_or, slice_set}
+use Rattle.std.proofs.Common.{arith, ◌-◌, ◌∙◌, refl, ap, is_some, slice_index_or, slice_set}
 use Rattle.std.proofs.lemmas.List.{length-set}
 use Rattle.std.proofs.lemmas.Result.{on_ok_weaker}
 use Rattle.lane_report.specs.Shows.{held_of}

@@ -1,10 +1,9 @@
-use Rattle.std.proofs.Common.{◌≡◌}
 use Rattle.std.proofs.lemmas.Result.{on_ok_weaker}
 use Rattle.ep_lanes.specs.Lanes.{made_of}
 use Rattle.session_phases.specs.Told.{told_by}
 use Rattle.lane_report.specs.Shows.{held_of}
 use Rattle.lane_report.proofs.Closing.{on_err_weaker}
-use Rattle.lane_report.proofs.Hearing.{is_after, then_lane, turn_wrote, turn_part, turn_front}
+use Rattle.lane_report.proofs.Hearing.{is_after, turn_wrote, turn_part, turn_front}
 use Rattle.lane_report.proofs.turning.turn_lane.Goals as goal
 
 pub returns-in-Ok-clause-ok : goal.returns-in-Ok-clause-ok

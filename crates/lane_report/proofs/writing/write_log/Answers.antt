@@ -1,4 +1,4 @@
-use Rattle.std.proofs.Common.{rules, arith, ◌≡◌, ◌∙◌, ap}
+use Rattle.std.proofs.Common.{rules, arith, ◌∙◌, ap}
 use Rattle.std.specs.Io.KnownBytes.{Appends}
 use Rattle.ep_base.specs.ReportLine.{log_line}
 use Rattle.ep_base.specs.WrittenText.{log_lines}
