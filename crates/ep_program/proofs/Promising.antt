@@ -48,7 +48,8 @@ module _ {P : Type 0} (steps : ProbeSteps P) (gives : GivesOn steps) (traced : B
       ∙ (ap (λ a. asks traced open_probe fsdi n o g a (opened run)) (sym x)
       ∙ ap (λ l. turn_of traced open_probe fsdi n o l (opened run)) (sym d)))
 
-  opened_after : (n : ℕ) (run : Run P) → opened (times (run_step traced steps fsdi count) n run) ≡ times (run_step traced open_probe fsdi count) n (opened run)
+  opened_after : (n : ℕ) (run : Run P)
+      → opened (times (run_step traced steps fsdi count) n run) ≡ times (run_step traced open_probe fsdi count) n (opened run)
   opened_after zero run = refl
   opened_after (suc n) run =
       opened_after n (run_step traced steps fsdi count run)
@@ -88,7 +89,8 @@ jobs_ready fsdi (jobs ∷ rest) first lane all =
 
 -- ---- the promise
 
-without_trace : (traced : Bool) (fsdi lane : ℕ) (jobs : List Job) (text : List ℕ) → AreTold traced fsdi lane 1 jobs text → traced ≡ false → IsReport fsdi lane jobs text
+without_trace : (traced : Bool) (fsdi lane : ℕ) (jobs : List Job) (text : List ℕ) → AreTold traced fsdi lane 1 jobs text → traced ≡ false
+    → IsReport fsdi lane jobs text
 without_trace true fsdi lane jobs text told e = absurd (let clash : ⊥ = cc in clash)
 without_trace false fsdi lane jobs text told e = tells_report_law fsdi lane jobs text told
 
@@ -101,14 +103,17 @@ open_promise traced fsdi turns lanes n ready over = record {
   text_is = sym (pieces_are_text_law open_probe traced fsdi turns tt lanes n);
   only = λ m ended. ap (λ (r : Run (Unit {0})). r.text) (one_end_law open_probe traced fsdi turns tt lanes m n ended over);
   keeps = λ lane is.
-      told_keep_law traced fsdi lane _ _ _ (are_ready fsdi _ (jobs_ready fsdi lanes 1 lane ready)) (runs_tell_law traced fsdi turns lanes n lane is over);
+      told_keep_law traced fsdi lane _ _ _ (are_ready fsdi _ (jobs_ready fsdi lanes 1 lane ready))
+      (runs_tell_law traced fsdi turns lanes n lane is over);
   reports = λ lane is. without_trace traced fsdi lane _ _ (runs_tell_law traced fsdi turns lanes n lane is over);
   apart = λ lane is. lanes_apart_law traced fsdi turns lanes n lane is;
 }
 
 -- A run that is over has the promise, where its probe gives on what it gets.
-pub promised : {P : Type 0} (steps : ProbeSteps P) (traced : Bool) (fsdi : ℕ) (turns : List ℕ) (p : P) (lanes : List (List Job)) (n : ℕ) → GivesOn steps → All (All (MayBegin fsdi)) lanes
-    → HasEnded (length lanes) (run_after traced steps fsdi turns p lanes n) → HasPromise traced fsdi turns lanes (run_after traced steps fsdi turns p lanes n).text
+pub promised : {P : Type 0} (steps : ProbeSteps P) (traced : Bool) (fsdi : ℕ) (turns : List ℕ) (p : P) (lanes : List (List Job)) (n : ℕ)
+    → GivesOn steps → All (All (MayBegin fsdi)) lanes
+    → HasEnded (length lanes) (run_after traced steps fsdi turns p lanes n)
+    → HasPromise traced fsdi turns lanes (run_after traced steps fsdi turns p lanes n).text
 promised steps traced fsdi turns p lanes n gives ready over =
     let same = opened_after steps gives traced fsdi (length lanes) n (opened_run fsdi turns p lanes) in
     subst (λ t. HasPromise traced fsdi turns lanes t) (sym (ap (λ (r : Run (Unit {0})). r.text) same))

@@ -82,7 +82,8 @@ is_ready p accepted = record {
       (All-weaker IsLane (λ lane. length (map (work_of p.config) lane) ≤ 64) (lane_short p.config) p.lanes accepted.lanes);
   fresh =
       All-map (All (IsFresh p.config p.fsdi)) (λ lane. map (work_of p.config) lane) p.lanes
-      (All-weaker IsLane (λ lane. All (IsFresh p.config p.fsdi) (map (work_of p.config) lane)) (lane_fresh p.config accepted.config p.fsdi) p.lanes accepted.lanes);
+      (All-weaker IsLane (λ lane. All (IsFresh p.config p.fsdi) (map (work_of p.config) lane))
+      (lane_fresh p.config accepted.config p.fsdi) p.lanes accepted.lanes);
 }
 
 pub opened_ready : (input : Option (List ℕ)) (s : Scene) → Opens input s → IsReady s
@@ -106,7 +107,8 @@ module _ (settings : Settings) (fsdi : ℕ) where
     few = All-weaker (IsFresh settings fsdi) (IsFew settings) (λ w is. is.few) lane fresh;
   }
 
-  pub new_works : (lanes : List (List Work)) → All IsShort lanes → All (All (IsFresh settings fsdi)) lanes → All (IsNewWork settings) (map new_work lanes)
+  pub new_works : (lanes : List (List Work)) → All IsShort lanes → All (All (IsFresh settings fsdi)) lanes
+      → All (IsNewWork settings) (map new_work lanes)
   new_works [] short fresh = All-nil (IsNewWork settings)
   new_works (lane ∷ rest) short fresh =
       All-cons (IsNewWork settings) (new_work lane) (map new_work rest)
@@ -114,8 +116,10 @@ module _ (settings : Settings) (fsdi : ℕ) where
       (new_works rest (All-tail IsShort lane rest short) (All-tail (All (IsFresh settings fsdi)) lane rest fresh))
 
 -- What is to be done by lanes of this kind, each of which holds a list of transactions.
-module _ {V : Type 0} (items : V → List Work) (settings : Settings) (lanes : List V) (works : List LaneWork) (is : works ≡ map (λ lane. new_work (items lane)) lanes) where
-  pub works_are_new : (fsdi : ℕ) → All (λ lane. length lane ≤ 64) (map items lanes) → All (All (IsFresh settings fsdi)) (map items lanes) → All (IsNewWork settings) works
+module _ {V : Type 0} (items : V → List Work) (settings : Settings) (lanes : List V) (works : List LaneWork)
+    (is : works ≡ map (λ lane. new_work (items lane)) lanes) where
+  pub works_are_new : (fsdi : ℕ) → All (λ lane. length lane ≤ 64) (map items lanes) → All (All (IsFresh settings fsdi)) (map items lanes)
+      → All (IsNewWork settings) works
   works_are_new fsdi short fresh =
       subst (All (IsNewWork settings)) (sym (is ∙ map_twice items new_work lanes)) (new_works settings fsdi (map items lanes) short fresh)
 
@@ -139,12 +143,14 @@ module _ (settings : Settings) (fsdi : ℕ) where
       All-map (MayBegin fsdi) (job_of settings) lane
       (All-weaker (IsFresh settings fsdi) (λ w. MayBegin fsdi (job_of settings w)) (may_begin settings fsdi) lane fresh)
 
-  lanes_begin : (lanes : List (List Work)) → All (All (IsFresh settings fsdi)) lanes → All (All (MayBegin fsdi)) (map (λ lane. map (job_of settings) lane) lanes)
+  lanes_begin : (lanes : List (List Work)) → All (All (IsFresh settings fsdi)) lanes
+      → All (All (MayBegin fsdi)) (map (λ lane. map (job_of settings) lane) lanes)
   lanes_begin lanes fresh =
       All-map (All (MayBegin fsdi)) (λ lane. map (job_of settings) lane) lanes
       (All-weaker (All (IsFresh settings fsdi)) (λ lane. All (MayBegin fsdi) (map (job_of settings) lane)) jobs_begin lanes fresh)
 
-is_text : {P : Type 0} (steps : ProbeSteps P) (traced : Bool) (s : Scene) (p : P) (text : List ℕ) (q : P) → IsReady s → HasRun traced steps s.fsdi s.turns p (jobs_in s) text q
+is_text : {P : Type 0} (steps : ProbeSteps P) (traced : Bool) (s : Scene) (p : P) (text : List ℕ) (q : P) → IsReady s
+    → HasRun traced steps s.fsdi s.turns p (jobs_in s) text q
     → IsTextOf steps traced s p text q
 is_text steps traced s p text q ready run = record {
   run = run;
@@ -164,20 +170,23 @@ module _ {P : Type 0} (answers : ProbeAnswers P) (traced : Bool) (s : Scene) (re
       (steps : ProbeSteps P) → Tells answers steps →
       (text : List ℕ) × (q : P) × HasRun traced steps s.fsdi turns before.probe jobs text q × AppendsPrefix before.written after.written text
 
-  pub writes : (turns : List ℕ) (jobs : List (List Job)) → turns ≡ s.turns → jobs ≡ jobs_in s → RunsTo turns jobs → Writes answers traced s before after
+  pub writes : (turns : List ℕ) (jobs : List (List Job)) → turns ≡ s.turns → jobs ≡ jobs_in s → RunsTo turns jobs
+      → Writes answers traced s before after
   writes turns jobs same_turns same_jobs run = λ steps tells.
       let whole : RunsTo s.turns (jobs_in s) = subst (λ js. RunsTo s.turns js) same_jobs (subst (λ ts. RunsTo ts jobs) same_turns run) in
       let (text, has, appended) = whole steps tells in
       (text, is_text steps traced s before.probe text after.probe ready has, appended)
 
-  pub writes_part : (turns : List ℕ) (jobs : List (List Job)) → turns ≡ s.turns → jobs ≡ jobs_in s → RunsToPart turns jobs → WritesPart answers traced s before after
+  pub writes_part : (turns : List ℕ) (jobs : List (List Job)) → turns ≡ s.turns → jobs ≡ jobs_in s → RunsToPart turns jobs
+      → WritesPart answers traced s before after
   writes_part turns jobs same_turns same_jobs run = λ steps tells.
       let part : RunsToPart s.turns (jobs_in s) = subst (λ js. RunsToPart s.turns js) same_jobs (subst (λ ts. RunsToPart ts jobs) same_turns run) in
       let (text, q, has, appended) = part steps tells in
       (text, q, is_text steps traced s before.probe text q ready has, appended)
 
 module _ {P : Type 0} (answers : ProbeAnswers P) (form : Form) (input : Option (List ℕ)) (before after : Outside P) where
-  of_plan : (p : Plan) → Gives input p → (status : Status) → Runs answers (is_traced form) (scene_of p) before after status → Serves answers (Some form) input before after status
+  of_plan : (p : Plan) → Gives input p → (status : Status) → Runs answers (is_traced form) (scene_of p) before after status
+      → Serves answers (Some form) input before after status
   of_plan p gives Done r = (form, refl, p, gives, r)
   of_plan p gives ReadFault r = absurd r
   of_plan p gives WriteFault r = (form, refl, p, gives, r)
@@ -188,7 +197,9 @@ module _ {P : Type 0} (answers : ProbeAnswers P) (form : Form) (input : Option (
   of_plan p gives (BadDocument f) r = absurd r
 
   -- A scene that was read and run is served.
-  pub served : (s : Scene) → Opens input s → (status : Status) → Runs answers (is_traced form) s before after status → Serves answers (Some form) input before after status
+  pub served : (s : Scene) → Opens input s → (status : Status) → Runs answers (is_traced form) s before after status
+      → Serves answers (Some form) input before after status
   served s opens status r =
       let says = opens.1 in
-      of_plan says.document (opens.0, says.reads, opens.2) status (subst (λ (t : Scene). Runs answers (is_traced form) t before after status) says.scene r)
+      of_plan says.document (opens.0, says.reads, opens.2) status
+      (subst (λ (t : Scene). Runs answers (is_traced form) t before after status) says.scene r)

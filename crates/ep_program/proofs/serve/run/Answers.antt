@@ -14,14 +14,17 @@ works_of-requires g c =
 
 pub report_lanes-requires-clause-works : goal.report_lanes-requires-clause-works
 report_lanes-requires-clause-works g c =
-    works_are_new (λ lane. lane.items) c.scenario.inside.config c.scenario.inside.lanes.items _ (c.deref_mut.ensures.value ∙ c.in-Ok.ensures) c.scenario.inside.fsdi
+    works_are_new (λ lane. lane.items) c.scenario.inside.config c.scenario.inside.lanes.items _
+    (c.deref_mut.ensures.value ∙ c.in-Ok.ensures) c.scenario.inside.fsdi
     (subst (λ (s : Scene). All (λ lane. length lane ≤ 64) s.lanes) (sym c.scenario.view_is) c.requires.ready.short)
     (subst (λ (s : Scene). All (All (IsFresh s.config s.fsdi)) s.lanes) (sym c.scenario.view_is) c.requires.ready.fresh)
 
 pub returns-in-Ok-report_lanes-clause-runs : goal.returns-in-Ok-report_lanes-clause-runs
 returns-in-Ok-report_lanes-clause-runs g c =
-    let before : Outside g.P.Probe.State = record { written = g.K.Sink.written c.args.output.now; probe = g.P.Probe.state c.args.probe.now } in
-    let after : Outside g.P.Probe.State = record { written = g.K.Sink.written c.report_lanes.new.output; probe = g.P.Probe.state c.report_lanes.new.probe } in
+    let written = g.K.Sink.written in
+    let state = g.P.Probe.state in
+    let before : Outside g.P.Probe.State = record { written = written c.args.output.now; probe = state c.args.probe.now } in
+    let after : Outside g.P.Probe.State = record { written = written c.report_lanes.new.output; probe = state c.report_lanes.new.probe } in
     subst (λ (s : Scene). Writes g.P.Probe.steps c.args.traced s before after) c.scenario.view_is
     (writes g.P.Probe.steps c.args.traced _ (subst IsReady (sym c.scenario.view_is) c.requires.ready) before after _ _
     (ap (λ (h : Held Scripted). h.order.turns) c.in-Ok-open.ensures)
@@ -30,8 +33,10 @@ returns-in-Ok-report_lanes-clause-runs g c =
 
 pub returns-clause-runs : goal.returns-clause-runs
 returns-clause-runs g c =
-    let before : Outside g.P.Probe.State = record { written = g.K.Sink.written c.args.output.now; probe = g.P.Probe.state c.args.probe.now } in
-    let after : Outside g.P.Probe.State = record { written = g.K.Sink.written c.report_lanes.new.output; probe = g.P.Probe.state c.report_lanes.new.probe } in
+    let written = g.K.Sink.written in
+    let state = g.P.Probe.state in
+    let before : Outside g.P.Probe.State = record { written = written c.args.output.now; probe = state c.args.probe.now } in
+    let after : Outside g.P.Probe.State = record { written = written c.report_lanes.new.output; probe = state c.report_lanes.new.probe } in
     subst (λ (s : Scene). WritesPart g.P.Probe.steps c.args.traced s before after) c.scenario.view_is
     (writes_part g.P.Probe.steps c.args.traced _ (subst IsReady (sym c.scenario.view_is) c.requires.ready) before after _ _
     (ap (λ (h : Held Scripted). h.order.turns) c.in-Ok-open.ensures)
