@@ -18,19 +18,24 @@ use Rattle.ep_program.specs.Promise.{IsThirdBad, FailsAtThird}
 third : (n : ℕ) → 2 ≤ n → nat_lt (suc n) 3 ≡ false
 third n two = grind (arith, nat_tests)
 
-module _ (fsdi : ℕ) (talk : Talk) (l : Lane) (link : OpenLink) (carries : l.standing.doing ≡ Carries link) (two : 2 ≤ count is_bad link.reader.since) where
+module _ (fsdi : ℕ) (talk : Talk) (l : Lane) (link : OpenLink) (carries : l.standing.doing ≡ Carries link)
+    (two : 2 ≤ count is_bad link.reader.since) where
   abbrev ask : Asked
   ask = asks_block link.set (asked link.reader)
 
   abbrev heard : Heard
   heard = heard_block link.set.kind link.set.frames.reader (or_silence (field_answers ask l.field).0)
 
+  -- the reader with one more bad hearing
+  abbrev worse : Reader
+  worse = kept Bad link.reader
+
   step_fails : heard ≡ Bad → (lane_step fsdi talk l).standing.doing ≡ Stopped AtLink
   step_fails bad =
       ap (λ (d : Doing). (goes_by fsdi talk (asked_by fsdi d) l).standing.doing) carries
       ∙ (ap (λ (d : Doing). (hears_by fsdi talk l.standing.results (or_silence (field_answers ask l.field).0) d).doing) carries
       ∙ (ap (λ (h : Heard). (after_turn talk l.standing.results link.set (reader_hears link.set.frames.reader link.reader h)).doing) bad
-      ∙ ap (λ (b : Bool). (after_turn talk l.standing.results link.set (if b then Asks (kept Bad link.reader) else Spends (kept Bad link.reader))).doing)
+      ∙ ap (λ (b : Bool). (after_turn talk l.standing.results link.set (if b then Asks worse else Spends worse)).doing)
       (third (count is_bad link.reader.since) two)))
 
 pub fails_at_third : (fsdi : ℕ) (j : Job) → FailsAtThird fsdi j
