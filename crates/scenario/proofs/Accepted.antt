@@ -68,7 +68,8 @@ IsNumber lanes n = (1 ≤ n) × (n ≤ lanes)
 accepted_turns : (lanes : ℕ) (root : Place) (turns : List ℕ) → turns_at lanes root ≡ Ok turns → AreTurns lanes turns
 accepted_turns lanes root turns e =
     let none : IsListOf (IsNumber lanes) 0 4096 [] = record { each = All-nil (IsNumber lanes); least = omega arith; most = omega arith } in
-    let all = accepted_defaulted _ _ [] (codes "turns") root turns (accepted_list elements.Integer 0 4096 (integer_in 1 lanes) (IsNumber lanes) (accepted_integer 1 lanes)) none e in
+    let list = accepted_list elements.Integer 0 4096 (integer_in 1 lanes) (IsNumber lanes) (accepted_integer 1 lanes) in
+    let all = accepted_defaulted _ _ [] (codes "turns") root turns list none e in
     record { few = all.most; known = all.each }
 
 accepted_line : Accepts line (λ _. ⊤)
