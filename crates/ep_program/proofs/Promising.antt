@@ -1,7 +1,7 @@
 -- The text of lanes whose transactions may begin has the promise, where the probe gives on what it gets.
 use Rattle.std.proofs.Common.{◌≡◌, ℕ, zero, suc, ◌+◌, Bool, true, false, List, [], ◌∷◌, length, map, All, refl, sym, ap, subst, ◌∙◌}
 use Rattle.std.specs.Prelude.{◌==◌, if◌then◌else◌}
-use Rattle.std.proofs.lemmas.List.Elements.{All-nil, All-head, All-tail}
+use Rattle.std.proofs.lemmas.List.Elements.{All-nil, All-head, All-tail, All-weaker}
 use Rattle.ep_base.specs.Configuration.{Settings}
 use Rattle.ep_base.specs.Kernel.{scripted}
 use Rattle.ep_base.specs.Lanes.{times}
@@ -25,7 +25,8 @@ use Rattle.law_turns.proofs.Writing.{pieces_are_text_law}
 use Rattle.scenario.specs.Scene.{Work}
 use Rattle.lane_report.specs.Works.{preparation, job_of}
 use Rattle.ep_program.specs.Headline.{IsFresh}
-use Rattle.ep_program.specs.Promise.{cards_in, GivesOn, IsReport, HasPromise}
+use Rattle.ep_program.specs.Promise.{cards_in, FailsAtThird, GivesOn, IsReport, HasPromise}
+use Rattle.ep_program.proofs.Thirds.{fails_at_third}
 
 -- ---- a run with a probe that gives on what it gets is one with the open probe
 
@@ -105,6 +106,8 @@ open_promise traced fsdi turns lanes n ready over = record {
   keeps = λ lane is.
       told_keep_law traced fsdi lane _ _ _ (are_ready fsdi _ (jobs_ready fsdi lanes 1 lane ready))
       (runs_tell_law traced fsdi turns lanes n lane is over);
+  thirds = λ lane is.
+      All-weaker (MayBegin fsdi) (FailsAtThird fsdi) (λ j begins. fails_at_third fsdi j) _ (jobs_ready fsdi lanes 1 lane ready);
   reports = λ lane is. without_trace traced fsdi lane _ _ (runs_tell_law traced fsdi turns lanes n lane is over);
   apart = λ lane is. lanes_apart_law traced fsdi turns lanes n lane is;
 }

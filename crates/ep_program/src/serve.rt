@@ -55,8 +55,8 @@ fn read<S: Source>(alloc: Global, input: &mut S) -> Result<Scenario, Status>
 ///
 /// - In a transaction that comes to its end the events are those of the Entry Point rules over a perfect channel, for the
 ///   ends that its poll rounds had, and the cards executed exactly the commands of that run, each once and in their order.
-/// - A link fails only where an open link made its third bad exchange of a command since the reader's last toggle, or
-///   since the link was opened. Then the report has the events before that command and the failed link's end, and the
+/// - A link fails exactly where an open link makes its third bad exchange of a command since the reader's last toggle, or
+///   since the link was opened, and the transaction ends with it. Then the report has the events before that command and the failed link's end, and the
 ///   cards executed the commands before it, each once, and that command at most once.
 /// - A card is never found to break the rules of the link, and no device fails.
 /// - Each lane writes what it writes alone, with its own number and without a turn list.
