@@ -81,8 +81,8 @@ is_ready p accepted = record {
   countable = lanes_count p.config accepted.config p.lanes accepted.lanes;
 }
 
-pub ready : (settings : Settings) (fsdi : ℕ) (lanes : List (List Work)) → IsOfDocument settings fsdi lanes
-    → IsReady (record { config = settings; fsdi = fsdi; lanes = lanes })
+pub ready : (settings : Settings) (fsdi : ℕ) (lanes : List (List Work)) (of : IsOfDocument settings fsdi lanes)
+    → IsReady (record { config = settings; fsdi = fsdi; turns = of.document.turns; lanes = lanes; trace = of.document.trace })
 ready settings fsdi lanes of = subst IsReady (sym of.scene) (is_ready of.document of.accepted)
 
 -- What holds of each image of a list's elements.
