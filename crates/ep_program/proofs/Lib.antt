@@ -1,2 +1,4 @@
+pub mod Loading
+pub mod Numbers
 pub mod Promising
 pub mod Ready
