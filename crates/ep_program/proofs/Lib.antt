@@ -1,3 +1,5 @@
+pub mod Loading
+pub mod Numbers
 pub mod Promising
 pub mod Ready
 pub mod Thirds

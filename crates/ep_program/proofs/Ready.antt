@@ -24,11 +24,9 @@ use Rattle.scenario.specs.Plan.{Transaction, Plan}
 use Rattle.scenario.specs.Scene.{Work, Scene, room_of, work_of, scene_of}
 use Rattle.ep_program.specs.Headline.{jobs_in, IsFresh, IsReady}
 use Rattle.ep_program.specs.Promise.{HasPromise}
-use Rattle.ep_program.specs.Serve.{Outside, IsTextOf, Writes, WritesPart, Gives, Opens, Serves, Runs}
-use Rattle.ep_program.specs.Words.{is_traced}
+use Rattle.ep_program.specs.Serve.{Outside, IsTextOf, Writes, WritesPart, Gives, Opens, Reports, Runs}
 use Rattle.ep_program.specs.declared.status.Status.{Status}
 use Rattle.ep_program.specs.declared.status.Status.TheVariants.{Done, ReadFault, WriteFault, NoMemory, Usage, TooLong, NotToml, BadDocument}
-use Rattle.ep_program.specs.declared.form.Form.{Form}
 use Rattle.ep_program.proofs.Promising.{MayBegin, may_begin, promised}
 
 -- ---- the transactions of an accepted document may begin
@@ -184,22 +182,21 @@ module _ {P : Type 0} (answers : ProbeAnswers P) (traced : Bool) (s : Scene) (re
       let (text, q, has, appended) = part steps tells in
       (text, q, is_text steps traced s before.probe text q ready has, appended)
 
-module _ {P : Type 0} (answers : ProbeAnswers P) (form : Form) (input : Option (List ℕ)) (before after : Outside P) where
-  of_plan : (p : Plan) → Gives input p → (status : Status) → Runs answers (is_traced form) (scene_of p) before after status
-      → Serves answers (Some form) input before after status
-  of_plan p gives Done r = (form, refl, p, gives, r)
+module _ {P : Type 0} (answers : ProbeAnswers P) (traced : Bool) (input : Option (List ℕ)) (before after : Outside P) where
+  of_plan : (p : Plan) → Gives input p → (status : Status) → Runs answers traced (scene_of p) before after status
+      → Reports answers traced input before after status
+  of_plan p gives Done r = (p, gives, r)
   of_plan p gives ReadFault r = absurd r
-  of_plan p gives WriteFault r = (form, refl, p, gives, r)
-  of_plan p gives NoMemory r = (refl, tt, r)
+  of_plan p gives WriteFault r = (p, gives, r)
+  of_plan p gives NoMemory r = (tt, r)
   of_plan p gives Usage r = absurd r
   of_plan p gives TooLong r = absurd r
   of_plan p gives NotToml r = absurd r
   of_plan p gives (BadDocument f) r = absurd r
 
-  -- A scene that was read and run is served.
-  pub served : (s : Scene) → Opens input s → (status : Status) → Runs answers (is_traced form) s before after status
-      → Serves answers (Some form) input before after status
-  served s opens status r =
+  -- A scene that was read and run is reported.
+  pub reported : (s : Scene) → Opens input s → (status : Status) → Runs answers traced s before after status
+      → Reports answers traced input before after status
+  reported s opens status r =
       let says = opens.1 in
-      of_plan says.document (opens.0, says.reads, opens.2) status
-      (subst (λ (t : Scene). Runs answers (is_traced form) t before after status) says.scene r)
+      of_plan says.document (opens.0, says.reads, opens.2) status (subst (λ (t : Scene). Runs answers traced t before after status) says.scene r)

@@ -1,4 +1,5 @@
 pub mod Headline
+pub mod Load
 pub mod Promise
 pub mod Serve
 pub mod Status

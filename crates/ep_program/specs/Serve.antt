@@ -1,5 +1,5 @@
 -- What the program answers, what it wrote then, and in which state it left the probe (this project's own).
-use Rattle.std.specs.Prelude.{◌≡◌, ℕ, ◌<◌, Bool, true, List, Some, None, Ok, Err, IfSome, is_some, length, ⊤}
+use Rattle.std.specs.Prelude.{◌≡◌, ℕ, ◌<◌, Bool, true, false, List, Some, None, Ok, Err, IfSome, length, ⊤}
 use Rattle.std.specs.declared.option.Option.{Option}
 use Rattle.std.specs.Io.KnownBytes.{Appends, Keeps}
 use Rattle.toml.specs.Data.{Members}
@@ -12,11 +12,12 @@ use Rattle.scenario.specs.Document.{IsDocument, Says}
 use Rattle.scenario.specs.Plan.{Plan, plan}
 use Rattle.scenario.specs.Scene.{Scene, scene_of}
 use Rattle.ep_program.specs.Headline.{jobs_in}
+use Rattle.ep_program.specs.Load.{Loads}
 use Rattle.ep_program.specs.Promise.{GivesOn, HasPromise}
-use Rattle.ep_program.specs.Words.{is_traced}
 use Rattle.ep_program.specs.declared.status.Status.{Status}
 use Rattle.ep_program.specs.declared.status.Status.TheVariants.{Done, ReadFault, WriteFault, NoMemory, Usage, TooLong, NotToml, BadDocument}
 use Rattle.ep_program.specs.declared.form.Form.{Form}
+use Rattle.ep_program.specs.declared.form.Form.TheVariants.{Run, RunTrace, Load}
 
 -- The input, where its bytes are told, is a document with this plan (this project's own).
 abbrev pub Gives : Option (List ℕ) → Plan → Type 0
@@ -64,19 +65,25 @@ WritesPart {P} answers traced s before after =
 abbrev pub Stays : {P : Type 0} → (before after : Outside P) → Type 0
 Stays before after = Keeps before.written after.written × (after.probe ≡ before.probe)
 
--- `Done` comes with the whole text of the document's run, `WriteFault` with a first part of it, and every other status with nothing written, the
--- probe as it was, and with its reason (this project's own).
+-- What a document's report answers: `Done` comes with the whole text of the document's run, `WriteFault` with a first part of it, and every other
+-- status with nothing written, the probe as it was, and with its reason (this project's own).
+abbrev pub Reports : {P : Type 0} → ProbeAnswers P → Bool → Option (List ℕ) → (before after : Outside P) → Status → Type 0
+Reports answers traced input before after Done = (p : Plan) × Gives input p × Writes answers traced (scene_of p) before after
+Reports answers traced input before after WriteFault = (p : Plan) × Gives input p × WritesPart answers traced (scene_of p) before after
+Reports answers traced input before after Usage = ⊥
+Reports answers traced input before after ReadFault = Refuses input ReadFault × Stays before after
+Reports answers traced input before after NoMemory = Refuses input NoMemory × Stays before after
+Reports answers traced input before after TooLong = Refuses input TooLong × Stays before after
+Reports answers traced input before after NotToml = Refuses input NotToml × Stays before after
+Reports answers traced input before after (BadDocument f) = Refuses input (BadDocument f) × Stays before after
+
+-- What the words ask for: a document's report, without the trace or with it, or the summary line of a load, which leaves the probe as it was.
+-- `Usage` comes exactly for words in no form, with nothing written and the probe as it was (this project's own).
 abbrev pub Serves : {P : Type 0} → ProbeAnswers P → Option Form → Option (List ℕ) → (before after : Outside P) → Status → Type 0
-Serves answers form input before after Done =
-    (f : Form) × (form ≡ Some f) × (p : Plan) × Gives input p × Writes answers (is_traced f) (scene_of p) before after
-Serves answers form input before after WriteFault =
-    (f : Form) × (form ≡ Some f) × (p : Plan) × Gives input p × WritesPart answers (is_traced f) (scene_of p) before after
-Serves answers form input before after Usage = (form ≡ None) × Stays before after
-Serves answers form input before after ReadFault = (is_some form ≡ true) × Refuses input ReadFault × Stays before after
-Serves answers form input before after NoMemory = (is_some form ≡ true) × Refuses input NoMemory × Stays before after
-Serves answers form input before after TooLong = (is_some form ≡ true) × Refuses input TooLong × Stays before after
-Serves answers form input before after NotToml = (is_some form ≡ true) × Refuses input NotToml × Stays before after
-Serves answers form input before after (BadDocument f) = (is_some form ≡ true) × Refuses input (BadDocument f) × Stays before after
+Serves answers None input before after status = (status ≡ Usage) × Stays before after
+Serves answers (Some Run) input before after status = Reports answers false input before after status
+Serves answers (Some RunTrace) input before after status = Reports answers true input before after status
+Serves answers (Some (Load seed count)) input before after status = Loads seed count before.written after.written status × (after.probe ≡ before.probe)
 
 -- What running a scene answers, what it writes, and in which state it leaves the probe (this project's own).
 abbrev pub Runs : {P : Type 0} → ProbeAnswers P → Bool → Scene → (before after : Outside P) → Status → Type 0

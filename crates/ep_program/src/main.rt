@@ -1,7 +1,9 @@
-//! The program: it reads a document, runs the transactions of its lanes by turns and writes their report.
+//! The program: it reads a document, runs the transactions of its lanes by turns and writes their report; or it runs a
+//! generated load and writes its summary line.
 #![tactic(auto)]
 
 mod form;
+mod load;
 mod serve;
 mod status;
 #[cfg(test)]

@@ -1,12 +1,13 @@
 //! The top call.
-ghost use Rattle.std.specs.Prelude.{◌≡◌, IfOk, IfErr, IsErrOf, OnOk};
+ghost use Rattle.std.specs.Prelude.{◌≡◌, true, false, IfOk, IfErr, IsErrOf, OnOk};
 ghost use Rattle.std.specs.Io.KnownBytes.{IsAtEnd};
 ghost use Rattle.ep_base.specs.Causes.{HasCause};
 ghost use Rattle.ep_program.specs.Headline.{IsReady};
-ghost use Rattle.ep_program.specs.Serve.{Opens, Refuses, Runs, Serves};
-ghost use Rattle.ep_program.specs.Words.{form_of};
+ghost use Rattle.ep_program.specs.Serve.{Opens, Refuses, Reports, Runs, Serves};
+ghost use Rattle.ep_program.specs.Words.{form_of, reads_input};
 
-use crate::form::form_of;
+use crate::form::{Form, form_of};
+use crate::load::load;
 use crate::status::Status;
 use ep_base::{NoMemory, ReadEnd, Sink, Source, read_all};
 use ep_lanes::{Lanes, Probe};
@@ -39,7 +40,10 @@ fn read<S: Source>(alloc: Global, input: &mut S) -> Result<Scenario, Status>
 
 /// Does what the words say: `run` reads a document from the input, runs the transactions of its lanes over the radio, each
 /// with the field of its own cards, and writes their report; `run trace` writes each exchange with the radio as well, before
-/// the lines of the events that it adds. All memory is taken before the first line is written.
+/// the lines of the events that it adds; `load` with a seed and a count runs the transactions of a generated load and writes
+/// their summary line. All memory is taken before the first line is written.
+///
+/// # Reports
 ///
 /// The lanes are opened in rising order. Then each turn makes one exchange of one lane: the lane that the document's turn
 /// list names next, where lanes without an exchange left are skipped, and after the list's end the lanes in rising order,
@@ -64,9 +68,18 @@ fn read<S: Source>(alloc: Global, input: &mut S) -> Result<Scenario, Status>
 ///
 /// A sink that fails leaves a first part of that text, with `WriteFault`.
 ///
+/// # Loads
+///
+/// The line has the numbers of the load's transactions together, each over the field of its own cards, and there is one such
+/// line alone: neither the input nor the probe is asked, and both are as before. `Done` comes with the whole line, and
+/// `WriteFault` with a first part of it.
+///
+/// # Statuses
+///
 /// Each status has its reason: `Usage` the words, `BadDocument` the document's first fault, `NotToml` and `TooLong` the
-/// input; `ReadFault` and `WriteFault` come only where a count of faults rose, and `NoMemory` may come for every document.
-/// But for `Done` and `WriteFault` nothing is written, and the probe is as it was.
+/// input; `ReadFault` and `WriteFault` come only where a count of faults rose, and `NoMemory` may come for every document
+/// and every load. But for `Done` and `WriteFault` nothing is written, and the probe is as it was. A load answers `Done`,
+/// `WriteFault` or `NoMemory` alone. With `Usage` the input is as before too.
 pub fn serve<S: Source, K: Sink, P: Probe>(
     alloc: Global,
     words: &[String],
@@ -77,15 +90,37 @@ pub fn serve<S: Source, K: Sink, P: Probe>(
     ensures serves { Serves P.steps (form_of words.now) (S.left input.old)
         (record { written = K.written output.old; probe = P.state probe.old })
         (record { written = K.written output.new; probe = P.state probe.new }) result }
+    ensures whole { result ≡ Status.Done → reads_input (form_of words.now) ≡ true → IsAtEnd (S.left input.new) }
+    ensures untouched { reads_input (form_of words.now) ≡ false →
+        (S.left input.new ≡ S.left input.old) × (S.faults input.new ≡ S.faults input.old) }
+    ensures read_cause { HasCause (S.faults input.old) (S.faults input.new) (result ≡ Status.ReadFault) }
+    ensures write_cause { HasCause (K.faults output.old) (K.faults output.new) (result ≡ Status.WriteFault) }
+{
+    match form_of(words) {
+        Some(Form::Run) => report(alloc, false, input, output, probe),
+        Some(Form::RunTrace) => report(alloc, true, input, output, probe),
+        Some(Form::Load { seed, count }) => load(alloc, seed, count, output),
+        None => Status::Usage,
+    }
+}
+
+// Reads a document, runs its transactions and writes their report.
+fn report<S: Source, K: Sink, P: Probe>(
+    alloc: Global,
+    traced: bool,
+    input: &mut S,
+    output: &mut K,
+    probe: &mut P,
+) -> Status
+    ensures reports { Reports P.steps traced (S.left input.old)
+        (record { written = K.written output.old; probe = P.state probe.old })
+        (record { written = K.written output.new; probe = P.state probe.new }) result }
     ensures whole { result ≡ Status.Done → IsAtEnd (S.left input.new) }
     ensures read_cause { HasCause (S.faults input.old) (S.faults input.new) (result ≡ Status.ReadFault) }
     ensures write_cause { HasCause (K.faults output.old) (K.faults output.new) (result ≡ Status.WriteFault) }
 {
-    let Some(form) = form_of(words) else {
-        return Status::Usage;
-    };
     match read(alloc, input) {
-        Ok(scenario) => run(alloc, scenario, form.is_traced(), output, probe),
+        Ok(scenario) => run(alloc, scenario, traced, output, probe),
         Err(status) => status,
     }
 }

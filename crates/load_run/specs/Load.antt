@@ -9,4 +9,4 @@ use Rattle.scenario.specs.Scene.{Work, scene_of}
 pub record IsOfDocument (settings : Settings) (fsdi : ℕ) (lanes : List (List Work)) : Type 0 where
   pub document : Plan
   pub accepted : IsAccepted document
-  pub scene : record { config = settings; fsdi = fsdi; lanes = lanes } ≡ scene_of document
+  pub scene : record { config = settings; fsdi = fsdi; turns = document.turns; lanes = lanes; trace = document.trace } ≡ scene_of document

@@ -1,0 +1,12 @@
+use Rattle.ep_program.specs.Serve.{Outside}
+use Rattle.ep_program.proofs.Ready.{opened_ready, reported}
+use Rattle.ep_program.proofs.serve.report.Goals as goal
+
+pub run-requires : goal.run-requires
+run-requires g c = record { ready = opened_ready _ _ c.in-Ok.ensures.ok }
+
+pub returns-in-Ok-clause-reports : goal.returns-in-Ok-clause-reports
+returns-in-Ok-clause-reports g c =
+    let before : Outside g.P.Probe.State = record { written = g.K.Sink.written c.args.output.now; probe = g.P.Probe.state c.args.probe.now } in
+    let after : Outside g.P.Probe.State = record { written = g.K.Sink.written c.run.new.output; probe = g.P.Probe.state c.run.new.probe } in
+    reported g.P.Probe.steps c.args.traced (g.S.Source.left c.args.input.now) before after c.in-Ok.scenario c.in-Ok.ensures.ok c.run.result c.run.ensures.runs
