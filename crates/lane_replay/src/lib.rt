@@ -1,0 +1,9 @@
+//! Several lanes that are run against the trace of an earlier run in place of cards: each exchange is compared with the next
+//! trace line, and where they are the same the lane hears what that line says (this project's own).
+#![tactic(auto)]
+
+mod ending;
+mod laws;
+
+pub use ending::ReplayEnd;
+pub use laws::{one_end, replays_stay, replays_stop, texts_grow};
