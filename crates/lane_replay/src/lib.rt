@@ -4,6 +4,7 @@
 
 mod ending;
 mod laws;
+mod opening;
 
 pub use ending::ReplayEnd;
 pub use laws::{one_end, replays_stay, replays_stop, texts_grow};
