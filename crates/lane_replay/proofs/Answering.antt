@@ -5,11 +5,8 @@ use Rattle.std.proofs.lemmas.Option.{slice_get_within}
 use Rattle.ep_base.specs.Hearing.{Asked, Hearing}
 use Rattle.ep_base.specs.ReplayRun.{Mismatch, Replaying, at_lane, compared, failing, next_line, same_shown, sends_unless, took}
 use Rattle.ep_base.specs.TraceLine.{Shown, Traced}
+use Rattle.lane_replay.specs.Turned.{lines_left}
 use Rattle.lane_replay.specs.WholeReplay.{answered}
-
--- how many lines were not taken
-abbrev pub lines_left : Replaying → ℕ
-lines_left s = length s.lines - s.taken
 
 -- a line is taken with each answer, and without one the trace has failed
 abbrev pub AnswerIs : Replaying → Option Hearing × Replaying → Type 0

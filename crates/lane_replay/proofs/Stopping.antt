@@ -9,8 +9,9 @@ use Rattle.ep_base.specs.TraceLine.{Traced}
 use Rattle.law_lane.proofs.Moving.{times_more}
 use Rattle.lane_replay.specs.LaneText.{heard_piece}
 use Rattle.lane_replay.specs.Stopping.{OneEnd, ReplaysStay, ReplaysStop, TextsGrow}
+use Rattle.lane_replay.specs.Turned.{lines_left}
 use Rattle.lane_replay.specs.WholeReplay.{HasStopped, LaneReplay, ReplayEnds, first_mismatch, hears, opened_replay, replay_after, replay_step}
-use Rattle.lane_replay.proofs.Answering.{lines_left, answer_of}
+use Rattle.lane_replay.proofs.Answering.{answer_of}
 use Rattle.lane_replay.proofs.Stepping.{by_step, failed_stopped, stopped_same}
 
 module _ (fsdi count : ℕ) where

@@ -1,14 +1,19 @@
 -- What a turn of a lane comes to in a replay (this project's own).
-use Rattle.std.specs.Prelude.{◌≡◌, ℕ, Bool, true, false, List, length, Option, Some, None, is_some}
+use Rattle.std.specs.Prelude.{◌≡◌, ℕ, ◌-◌, Bool, true, false, List, length, Option, Some, None, is_some}
 use Rattle.std.specs.Io.KnownBytes.{Appends}
 use Rattle.ep_base.specs.Configuration.{Settings}
 use Rattle.ep_base.specs.Hearing.{Hearing}
 use Rattle.ep_base.specs.Io.{AppendsPrefix}
 use Rattle.ep_base.specs.Kernel.{Scripted, scripted}
-use Rattle.ep_base.specs.ReplayRun.{Replaying}
+use Rattle.ep_base.specs.Medium as media
+use Rattle.ep_base.specs.ReplayRun.{Replaying, at_lane, replay}
+use Rattle.ep_base.specs.Said.{Said}
 use Rattle.ep_base.specs.Talk.{Talk}
 use Rattle.law_lane.specs.Standing.{Standing, asked_by, started}
-use Rattle.ep_lanes.specs.Lanes.{LaneHeld}
+use Rattle.law_turns.specs.WholeRun.{open_probe}
+use Rattle.ep_lanes.specs.Lanes.{Held, LaneHeld}
+use Rattle.ep_lanes.specs.Probing as probes
+use Rattle.ep_lanes.specs.Turns as turns
 use Rattle.ep_lanes.specs.Turns.{Stands, Tells}
 use Rattle.ep_lanes.specs.declared.exchange.Turned.{Turned}
 use Rattle.scenario.specs.Scene.{Work}
@@ -23,6 +28,19 @@ pub record BegunLane (settings : Settings) (fsdi : ℕ) (w : Work) (held : LaneH
   pub asked : asks ≡ is_some (asked_by fsdi (started (talk_in settings w)).doing)
   pub opened : is_some held.transaction ≡ asks
   pub stands : Stands scripted held (talk_in settings w) fsdi (started (talk_in settings w))
+
+-- How many lines of a trace weren't taken (this project's own).
+abbrev pub lines_left : Replaying → ℕ
+lines_left s = length s.lines - s.taken
+
+-- One turn of this lane with the trace in place of cards: it asked what the next line says, and heard what that line heard (this project's own).
+abbrev pub HeardLine : (lane : ℕ) → (before : Held Scripted) (s : Replaying) → Turned → List Said → (after : Held Scripted) (t : Replaying) → Type 0
+HeardLine lane before s turned said after t =
+    turns.Turns scripted (media.told replay) (probes.told open_probe) lane before (at_lane lane s) tt turned said after t tt
+
+-- A lane asked something else, and has ended (this project's own).
+abbrev pub OtherLine : (lane : ℕ) → (before : LaneHeld Scripted) (s : Replaying) → (after : LaneHeld Scripted) (t : Replaying) → Type 0
+OtherLine lane before s after t = turns.Fails (media.told replay) before (at_lane lane s) after t
 
 -- A lane after an exchange of the transaction that waited so: it stands where the transaction stands then, and says what follows (this project's own).
 pub record IsAfter (settings : Settings) (fsdi : ℕ) (held : LaneHeld Scripted) (work : LaneWork) (turned : Turned) (w : Waiting) (s : Standing) : Type 0 where

@@ -5,6 +5,9 @@
 mod ending;
 mod laws;
 mod opening;
+mod run;
+mod turning;
 
 pub use ending::ReplayEnd;
 pub use laws::{one_end, replays_stay, replays_stop, texts_grow};
+pub use run::replay_lanes;
