@@ -12,3 +12,4 @@ mod writing;
 
 pub use run::report_lanes;
 pub use works::{LaneJobs, works_of};
+pub use writing::write_events;

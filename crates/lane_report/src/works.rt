@@ -47,14 +47,14 @@ impl LaneJobs {
     }
 
     /// The number of the last transaction that was begun.
-    pub(crate) fn txn(&self) -> u8
+    pub fn txn(&self) -> u8
         ensures { result ≡ self.now.txn }
     {
         self.txn
     }
 
     /// Takes the next transaction, which has the next number.
-    pub(crate) fn next_job(&mut self) -> Option<Job>
+    pub fn next_job(&mut self) -> Option<Job>
         ensures next { IfSome result (λ job. (self.old.left ≡ job ∷ self.new.left) × (self.new.txn ≡ self.old.txn + 1)) }
         ensures none { IsNone result → (self.old.left ≡ []) × (self.new ≡ self.old) }
         ensures field { self.new.field ≡ self.old.field }

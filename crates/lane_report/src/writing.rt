@@ -18,10 +18,10 @@ use rf_frame::copy_frame;
 use scenario::Field;
 use trace_io::{Shown, TraceLine, trace_line};
 
-/// Writes the lines of events.
+/// Writes the lines of events of this lane's transaction. This takes no memory.
 ///
 /// Errors: the sink failed; a first part of the lines was written.
-pub(crate) fn write_events<K: Sink>(
+pub fn write_events<K: Sink>(
     lane: u8,
     txn: u8,
     events: &EventList,

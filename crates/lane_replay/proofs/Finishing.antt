@@ -1,0 +1,90 @@
+-- From opened lanes and their turns to the replay's end.
+use Rattle.std.proofs.Common.{◌≡◌, ℕ, ◌+◌, Bool, true, false, List, ◌++◌, length, refl, sym, ap, subst, ◌∙◌, arith, Option, Some, None, is_some}
+use Rattle.std.proofs.lemmas.List.{length-map}
+use Rattle.ep_base.specs.Configuration.{Settings}
+use Rattle.ep_base.specs.Io.{AppendsPrefix}
+use Rattle.ep_base.specs.Kernel.{Scripted}
+use Rattle.ep_base.specs.ReplayRun.{Mismatch, Replaying, ends_unless, finishes, left_over, next_line}
+use Rattle.ep_base.specs.Talk.{Talk}
+use Rattle.ep_base.specs.TraceLine.{Traced}
+use Rattle.ep_lanes.specs.Lanes.{Held}
+use Rattle.lane_report.specs.Works.{LaneWork}
+use Rattle.lane_report.proofs.Appending.{prefix_front, wrote_since}
+use Rattle.lane_replay.specs.Made.{EndCut, EndShown, TurnsCut, TurnsMade}
+use Rattle.lane_replay.specs.Replayed.{LanesOpened, Replayed, ReplayedPart}
+use Rattle.lane_replay.specs.Shows.{ReplayState, all_talks, talks_of}
+use Rattle.lane_replay.specs.WholeReplay.{LaneReplay, first_mismatch, opened_replay, opening_text, replay_after}
+use Rattle.lane_replay.proofs.Stopping.{replays_stop_law, texts_grow_law}
+
+-- The end holds a failure exactly where it isn't well.
+abbrev EndIs : Bool × Replaying → Type 0
+EndIs (true, t) = t.failure ≡ None
+EndIs (false, t) = is_some t.failure ≡ true
+
+by_left : (l : Option Traced) (s : Replaying) → s.failure ≡ None → EndIs (left_over l s)
+by_left None s well = well
+by_left (Some line) s well = refl
+
+by_end : (f : Option Mismatch) (s : Replaying) → s.failure ≡ f → EndIs (ends_unless f s)
+by_end None s e = by_left (next_line s) s e
+by_end (Some m) s e = ap is_some e
+
+end_is : (s : Replaying) (b : Bool × Replaying) → finishes s ≡ b → EndIs b
+end_is s b e = subst (λ (x : Bool × Replaying). EndIs x) e (by_end s.failure s refl)
+
+pub ends_well : (s t : Replaying) (b : Bool) → finishes s ≡ (b, t) → b ≡ true → t.failure ≡ None
+ends_well s t b e is = subst (λ x. EndIs (x, t)) is (end_is s (b, t) e)
+
+pub ends_ill : (s t : Replaying) (b : Bool) → finishes s ≡ (b, t) → b ≡ false → is_some t.failure ≡ true
+ends_ill s t b e is = subst (λ x. EndIs (x, t)) is (end_is s (b, t) e)
+
+module _ (settings : Settings) (fsdi : ℕ) (turns : List ℕ) (before opened : ReplayState) (size : length opened.works ≡ length before.works)
+    (begun : LanesOpened settings fsdi turns before opened) where
+  abbrev talks : List (List Talk)
+  talks = all_talks settings before.works
+
+  abbrev run : LaneReplay
+  run = opened_replay fsdi turns before.trace.lines talks
+
+  count_is : length opened.works ≡ length talks
+  count_is = size ∙ sym (length-map before.works (talks_of settings))
+
+  -- all turns were made, and the trace was ended
+  pub replay_whole : (after : ReplayState) (t : Replaying) (b : Bool) → TurnsMade settings fsdi opened after → finishes after.trace ≡ (b, t)
+      → (mismatch : Option Mismatch) → mismatch ≡ t.failure → Replayed settings fsdi turns before after.written mismatch
+  replay_whole after t b made ended mismatch is =
+      let end : EndShown fsdi (length talks) before.written after run =
+      subst (λ k. EndShown fsdi k before.written after run) count_is (made before.written run begun) in
+      let last = replay_after fsdi turns before.trace.lines talks end.exchanges in
+      let first : first_mismatch last ≡ t.failure =
+      ap (λ (s : Replaying). (finishes s).1.failure) (sym end.shows.trace) ∙ ap (λ (e : Bool × Replaying). e.1.failure) ended in (
+        last.text,
+        record { exchanges = end.exchanges; stopped = end.stopped; mismatch_is = is ∙ sym first; text_is = refl },
+        wrote_since before.written after.written last.text end.shows.text,
+      )
+
+  -- they were cut short
+  pub replay_part : (written : Option (List ℕ)) → TurnsCut settings fsdi opened written → ReplayedPart settings fsdi turns before written
+  replay_part written cut =
+      let end : EndCut fsdi (length talks) before.written written run =
+      subst (λ k. EndCut fsdi k before.written written run) count_is (cut before.written run begun) in
+      let last = replay_after fsdi turns before.trace.lines talks end.exchanges in
+      (first_mismatch last, last.text, record { exchanges = end.exchanges; stopped = end.stopped; mismatch_is = refl; text_is = refl }, end.part)
+
+-- Where the lanes weren't all opened.
+pub replay_unopened : (settings : Settings) (fsdi : ℕ) (turns : List ℕ) (before : ReplayState) (written : Option (List ℕ))
+    → AppendsPrefix before.written written (opening_text fsdi 1 (all_talks settings before.works)) → ReplayedPart settings fsdi turns before written
+replay_unopened settings fsdi turns before written part =
+    let lines = before.trace.lines in
+    let talks = all_talks settings before.works in
+    let many = length lines + 1 in
+    let grows = texts_grow_law fsdi turns lines talks 0 many in
+    let all : 0 + many ≡ many = omega arith in
+    let last = replay_after fsdi turns lines talks many in
+    let longer : last.text ≡ opening_text fsdi 1 talks ++ grows.0 =
+    ap (λ k. (replay_after fsdi turns lines talks k).text) (sym all) ∙ grows.1 in (
+      first_mismatch last,
+      last.text,
+      record { exchanges = many; stopped = replays_stop_law fsdi turns lines talks; mismatch_is = refl; text_is = refl },
+      subst (λ t. AppendsPrefix before.written written t) (sym longer) (prefix_front before.written written (opening_text fsdi 1 talks) grows.0 part),
+    )

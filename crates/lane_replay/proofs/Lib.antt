@@ -1,0 +1,10 @@
+pub mod Answering
+pub mod Beginning
+pub mod Finishing
+pub mod Going
+pub mod Hearing
+pub mod Making
+pub mod Opened
+pub mod Stepping
+pub mod Stopping
+pub mod Turns

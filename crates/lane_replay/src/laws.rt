@@ -1,0 +1,22 @@
+//! Laws of replays of several lanes, each the contract of a function that does nothing.
+ghost use Rattle.lane_replay.specs.Stopping.{OneEnd, ReplaysStay, ReplaysStop, TextsGrow};
+
+/// A replay has stopped after one exchange more than its trace has lines.
+pub fn replays_stop()
+    ensures { ReplaysStop }
+{}
+
+/// Once a replay has stopped it stays as it is.
+pub fn replays_stay()
+    ensures { ReplaysStay }
+{}
+
+/// A replay ends in one way: matched, or with one first mismatch, and with one text.
+pub fn one_end()
+    ensures { OneEnd }
+{}
+
+/// What a replay wrote is the beginning of what it has written after more exchanges.
+pub fn texts_grow()
+    ensures { TextsGrow }
+{}

@@ -1,0 +1,13 @@
+//! Several lanes that are run against the trace of an earlier run in place of cards: each exchange is compared with the next
+//! trace line, and where they are the same the lane hears what that line says (this project's own).
+#![tactic(auto)]
+
+mod ending;
+mod laws;
+mod opening;
+mod run;
+mod turning;
+
+pub use ending::ReplayEnd;
+pub use laws::{one_end, replays_stay, replays_stop, texts_grow};
+pub use run::replay_lanes;
