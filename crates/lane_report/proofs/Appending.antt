@@ -1,10 +1,10 @@
 -- Texts one after another on a sink, and first parts of them.
-use Rattle.std.proofs.Common.{◌≡◌, ℕ, ◌+◌, ◌≤◌, List, [], ◌++◌, length, take, refl, sym, ap, subst, ◌∙◌, append_assoc, arith, length-append}
+use Rattle.std.proofs.Common.{◌≡◌, ℕ, ◌+◌, List, ◌++◌, length, take, refl, sym, ap, subst, ◌∙◌, append_assoc, arith, length-append}
 use Rattle.std.specs.Prelude.{is_some, Some, None, Result, Ok, Err, OnErr, OnOk}
 use Rattle.std.specs.declared.option.Option.{Option}
 use Rattle.std.specs.Io.KnownBytes.{Appends}
 use Rattle.std.proofs.Math.Seq.{take-append-add}
-use Rattle.std.proofs.lemmas.List.{append-nil, take-append-le}
+use Rattle.std.proofs.lemmas.List.{take-append-le}
 use Rattle.ep_base.specs.Io.{AppendsPrefix}
 use Rattle.ep_base.proofs.Known.{appends_more}
 use Rattle.ep_lanes.proofs.Numbering.{is_none}
@@ -55,7 +55,8 @@ grown : (ss : List ℕ) (v : Option (List ℕ)) (xs ys : List ℕ) → Appends (
 grown ss None xs ys h = absurd h
 grown ss (Some vs) xs ys h = ap Some (h ∙ append_assoc ss xs ys)
 
-pub with_more : (start w v : Option (List ℕ)) (xs ys : List ℕ) → w ≡ with_text start xs → Appends w v ys → is_some v ≡ is_some w → v ≡ with_text start (xs ++ ys)
+pub with_more : (start w v : Option (List ℕ)) (xs ys : List ℕ) → w ≡ with_text start xs → Appends w v ys → is_some v ≡ is_some w
+    → v ≡ with_text start (xs ++ ys)
 with_more None w v xs ys e wrote told = is_none v (told ∙ ap is_some e)
 with_more (Some ss) w v xs ys e wrote told = grown ss v xs ys (subst (λ u. Appends u v ys) e wrote)
 

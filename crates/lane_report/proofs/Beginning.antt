@@ -1,14 +1,14 @@
 -- What is written when a transaction is begun, and what of a lane's text comes after it.
-use Rattle.std.proofs.Common.{◌≡◌, ℕ, ◌+◌, List, [], ◌∷◌, ◌++◌, map, refl, sym, ap, subst, ◌∙◌, true, false, Bool}
+use Rattle.std.proofs.Common.{◌≡◌, ℕ, ◌+◌, List, [], ◌∷◌, ◌++◌, map, refl, sym, ap, subst, ◌∙◌, true, false}
 use Rattle.std.specs.Prelude.{Option, Some, None, is_some}
 use Rattle.std.proofs.lemmas.List.{append-nil}
 use Rattle.ep_base.specs.Configuration.{Settings}
 use Rattle.ep_base.specs.Hearing.{Asked}
-use Rattle.ep_base.specs.Kernel.{Scripted, scripted}
+use Rattle.ep_base.specs.Kernel.{Scripted}
 use Rattle.ep_base.specs.PreProcessing.{prepared}
 use Rattle.ep_base.specs.Said.{Said}
 use Rattle.ep_base.specs.Talk.{Talk}
-use Rattle.ep_base.specs.WrittenText.{event_lines, log_lines}
+use Rattle.ep_base.specs.WrittenText.{event_lines}
 use Rattle.entry_session.specs.Perfect.{talk_of}
 use Rattle.law_lane.specs.Standing.{asked_by, events_of, started}
 use Rattle.law_turns.specs.LaneText.{Job, Piece, opens, opens_by}
@@ -19,10 +19,11 @@ use Rattle.ep_lanes.specs.declared.exchange.Turned.TheVariants.{Goes, Ended}
 use Rattle.pre_processing.specs.Preparation.{Preparation}
 use Rattle.scenario.specs.Scene.{Work}
 use Rattle.lane_report.specs.Begun.{BegunLane, asked_first, begun_text, closing_text}
-use Rattle.lane_report.specs.Shows.{FitsLane, ShowsGoing, ShowsLane}
+use Rattle.lane_report.specs.Shows.{FitsLane, ShowsLane}
 use Rattle.lane_report.specs.Works.{LaneWork, job_of, jobs_of, preparation, talk_in}
 
-same_preparation : (settings : Settings) (w : Work) (p : Preparation) → p.list ≡ prepared settings w.txn_type w.amount → p.txn_type ≡ w.txn_type → p.amount ≡ w.amount
+same_preparation : (settings : Settings) (w : Work) (p : Preparation) → p.list ≡ prepared settings w.txn_type w.amount → p.txn_type ≡ w.txn_type
+    → p.amount ≡ w.amount
     → p ≡ preparation settings w
 same_preparation settings w p l t a =
     ap (λ n. record { txn_type = n; amount = p.amount; list = p.list }) t
@@ -53,7 +54,8 @@ module _ (lane txn : ℕ) (j : Job) where
   begun_more (Some ask) rest = []
   begun_more None rest = rest.text
 
-  pub opens_split : (left : List Job) (rest : Piece) (o : Option Asked) → (opens_by lane txn j left rest o).text ≡ begun_text lane txn j o ++ begun_more o rest
+  pub opens_split : (left : List Job) (rest : Piece) (o : Option Asked)
+      → (opens_by lane txn j left rest o).text ≡ begun_text lane txn j o ++ begun_more o rest
   opens_split left rest (Some ask) = sym (append-nil (event_lines lane txn (events_of j.talk (started j.talk))))
   opens_split left rest None = refl
 
@@ -77,7 +79,8 @@ pub first_text : (settings : Settings) (fsdi lane n txn : ℕ) (w v : Work) (p :
 first_text settings fsdi lane n txn w v p turned said e l t a number told tells =
     let talk = same_talk settings w v p e l t a in
     said_first lane txn (job_of settings v) fsdi turned (subst (λ (x : Talk). Tells turned fsdi x (started x)) talk tells)
-    ∙ ap (λ log. event_lines lane txn (events_of (talk_in settings v) (started (talk_in settings v))) ++ closing_text turned lane txn log) (ap (λ (x : Work). x.field.log) (sym e))
+    ∙ ap (λ log. event_lines lane txn (events_of (talk_in settings v) (started (talk_in settings v))) ++ closing_text turned lane txn log)
+    (ap (λ (x : Work). x.field.log) (sym e))
     ∙ ap (λ said. event_lines lane txn said ++ closing_text turned lane txn w.field.log) (sym (told ∙ ap (λ (x : Talk). events_of x (started x)) talk))
     ∙ ap (λ k. event_lines lane k said ++ closing_text turned lane k w.field.log) (sym number)
 
@@ -90,7 +93,8 @@ module _ (settings : Settings) (fsdi lane : ℕ) where
     next_is : here work ≡ opens_by lane taken.txn (job_of settings w) (jobs_of settings taken) (here taken) (asked_first fsdi (job_of settings w))
     next_is =
         ap (λ ws. opens fsdi lane (work.txn + 1) (map (job_of settings) ws)) left
-        ∙ ap (λ n. opens_by lane n (job_of settings w) (jobs_of settings taken) (opens fsdi lane (n + 1) (jobs_of settings taken)) (asked_first fsdi (job_of settings w))) (sym number)
+        ∙ ap (λ n. opens_by lane n (job_of settings w) (jobs_of settings taken) (opens fsdi lane (n + 1) (jobs_of settings taken))
+        (asked_first fsdi (job_of settings w))) (sym number)
 
     pub text_split : (here work).text ≡ begun_text lane taken.txn (job_of settings w) (asked_first fsdi (job_of settings w))
         ++ begun_more lane taken.txn (job_of settings w) (asked_first fsdi (job_of settings w)) (here taken)
@@ -110,7 +114,8 @@ module _ (settings : Settings) (fsdi lane : ℕ) where
       text_passed b =
           text_split
           ∙ ap (λ l. begun_text lane taken.txn (job_of settings w) (asked_first fsdi (job_of settings w)) ++ l)
-          (more_passed lane taken.txn (job_of settings w) (here taken) (asked_first fsdi (job_of settings w)) b.asked ∙ ap (λ (p : Piece). p.text) (same_rest b))
+          (more_passed lane taken.txn (job_of settings w) (here taken) (asked_first fsdi (job_of settings w)) b.asked
+          ∙ ap (λ (p : Piece). p.text) (same_rest b))
 
       pub going_after : BegunLane settings fsdi w held taken begun false → (here work).going ≡ (here begun).going
       going_after b =

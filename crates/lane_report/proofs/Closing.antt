@@ -1,21 +1,21 @@
 -- What follows once a transaction has ended.
 use Rattle.std.proofs.Common.{◌≡◌, ℕ, ◌+◌, List, ◌++◌, map, sym, ap, subst, ◌∙◌}
-use Rattle.std.specs.Prelude.{Option, Some, None, Result, Ok, Err, OnOk, OnErr, unwrap_or}
+use Rattle.std.specs.Prelude.{Option, Some, Result, Ok, Err, OnOk, OnErr, unwrap_or}
 use Rattle.std.specs.Io.KnownBytes.{Appends}
 use Rattle.ep_base.specs.Configuration.{Settings}
 use Rattle.ep_base.specs.Field.{Field}
 use Rattle.ep_base.specs.Io.{AppendsPrefix}
 use Rattle.ep_base.specs.Kernel.{Scripted}
 use Rattle.ep_base.specs.WrittenText.{log_lines}
-use Rattle.ep_base.proofs.Known.{appends_more, appends_none}
+use Rattle.ep_base.proofs.Known.{appends_more}
 use Rattle.law_lane.specs.Exchanges.{Lane}
 use Rattle.law_lane.specs.Standing.{asked_by}
-use Rattle.law_turns.specs.LaneText.{Going, Piece, Job, after_text, goes_on, opens}
+use Rattle.law_turns.specs.LaneText.{Going, Piece, after_text, goes_on, opens}
 use Rattle.ep_lanes.specs.Lanes.{LaneHeld}
 use Rattle.ep_lanes.specs.declared.exchange.Turned.{Turned}
-use Rattle.ep_lanes.specs.declared.exchange.Turned.TheVariants.{Goes, Ended}
+use Rattle.ep_lanes.specs.declared.exchange.Turned.TheVariants.{Ended}
 use Rattle.lane_report.specs.Shows.{ShowsLane}
-use Rattle.lane_report.specs.Turned.{GoesOn, GoesOnPart, IsAfter, Wrote}
+use Rattle.lane_report.specs.Turned.{IsAfter, Wrote}
 use Rattle.lane_report.specs.Works.{LaneWork, job_of, jobs_of}
 use Rattle.lane_report.proofs.Appending.{prefix_front, prefix_more}
 use Rattle.lane_report.proofs.Beginning.{here}
@@ -24,7 +24,8 @@ use Rattle.lane_report.proofs.Beginning.{here}
 pub some_same : {A : Type 0} (x y : A) → Some x ≡ Some y → x ≡ y
 some_same x y e = ap (λ o. unwrap_or o y) e
 
-module _ (settings : Settings) (fsdi lane n : ℕ) (work taken : LaneWork) (left : taken.left ≡ work.left) (same : taken.txn ≡ work.txn) (number : n ≡ taken.txn)
+module _ (settings : Settings) (fsdi lane n : ℕ) (work taken : LaneWork) (left : taken.left ≡ work.left) (same : taken.txn ≡ work.txn)
+    (number : n ≡ taken.txn)
     (records : List (ℕ × List ℕ)) (log_is : (f : Field) → work.field ≡ Some f → records ≡ f.log) where
   same_here : here settings fsdi lane taken ≡ here settings fsdi lane work
   same_here =
@@ -35,9 +36,11 @@ module _ (settings : Settings) (fsdi lane n : ℕ) (work taken : LaneWork) (left
   lines_are f e = ap (λ k. log_lines lane k records) (number ∙ same) ∙ ap (λ l. log_lines lane work.txn l) (log_is f e)
 
   -- the log was written, and then the lane's next transactions were opened
-  pub closed_whole : {T E : Type 0} (r : Result T E) (held : LaneHeld Scripted) (begun : LaneWork) (a b w : Option (List ℕ)) → Appends a b (log_lines lane n records)
+  pub closed_whole : {T E : Type 0} (r : Result T E) (held : LaneHeld Scripted) (begun : LaneWork) (a b w : Option (List ℕ))
+      → Appends a b (log_lines lane n records)
       → OnOk r (Appends b w (here settings fsdi lane taken).text) → OnOk r (ShowsLane settings fsdi held begun (here settings fsdi lane taken).going)
-      → OnOk r ((f : Field) → work.field ≡ Some f → Wrote settings fsdi held begun a w (after_text (log_lines lane work.txn f.log) (here settings fsdi lane work)))
+      → OnOk r ((f : Field) → work.field ≡ Some f
+      → Wrote settings fsdi held begun a w (after_text (log_lines lane work.txn f.log) (here settings fsdi lane work)))
   closed_whole (Err e) held begun a b w log text shows = tt
   closed_whole (Ok v) held begun a b w log text shows = λ f e. record {
     text =
@@ -72,7 +75,8 @@ module _ (settings : Settings) (fsdi lane : ℕ) (held : LaneHeld Scripted) (wor
       ∙ ap (λ k. after_text (log_lines lane k l.field.log) (opens fsdi lane (k + 1) (jobs_of settings work))) (sym h.number)
 
   pub ended_wrote : (turned : Turned) (end : _) → turned ≡ Ended end → (held' : LaneHeld Scripted) (work' : LaneWork) (a w : Option (List ℕ))
-      → ((f : Field) → work.field ≡ Some f → Wrote settings fsdi held' work' a w (after_text (log_lines lane work.txn f.log) (here settings fsdi lane work)))
+      → ((f : Field) → work.field ≡ Some f
+      → Wrote settings fsdi held' work' a w (after_text (log_lines lane work.txn f.log) (here settings fsdi lane work)))
       → IsAfter settings fsdi held work turned g l → Wrote settings fsdi held' work' a w (goes_on fsdi lane g l (asked_by fsdi l.standing.doing))
   ended_wrote turned end is held' work' a w wrote h =
       subst (λ (p : Piece). Wrote settings fsdi held' work' a w p)

@@ -1,5 +1,5 @@
 -- An exchange of a lane over its field, as a run of lanes makes it.
-use Rattle.std.proofs.Common.{◌≡◌, ℕ, ◌+◌, Bool, true, false, List, ◌++◌, map, length, drop, sym, ap, subst, ◌∙◌, append_assoc}
+use Rattle.std.proofs.Common.{◌≡◌, ℕ, Bool, true, false, List, ◌++◌, map, length, drop, sym, ap, subst, ◌∙◌, append_assoc}
 use Rattle.std.specs.Prelude.{Option, Some, None, if◌then◌else◌}
 use Rattle.std.specs.Io.KnownBytes.{Appends}
 use Rattle.std.proofs.Math.Seq.{drop-append_seam}
@@ -12,7 +12,7 @@ use Rattle.ep_base.specs.Medium.{told, AfterReset, ExchangesBy, Exchanges}
 use Rattle.ep_base.specs.Said.{Said}
 use Rattle.ep_base.specs.WrittenText.{event_lines}
 use Rattle.law_lane.specs.Exchanges.{Lane, field_answers, or_silence}
-use Rattle.law_lane.specs.Standing.{asked_by, events_of, after_hearing}
+use Rattle.law_lane.specs.Standing.{asked_by, events_of}
 use Rattle.law_turns.specs.LaneText.{Going, Piece, added, goes_on, heard_lane, trace_part}
 use Rattle.law_turns.specs.WholeRun.{ProbeSteps}
 use Rattle.ep_lanes.specs.Lanes.{Held, LaneHeld, Made, lane_of}
@@ -21,13 +21,14 @@ use Rattle.ep_lanes.specs.Turns.{Makes}
 use Rattle.ep_lanes.specs.declared.exchange.Turned.{Turned}
 use Rattle.ep_lanes.proofs.Standing.{asks_then}
 use Rattle.lane_report.specs.Shows.{ShowsGoing, Tells}
-use Rattle.lane_report.specs.Turned.{HeardTurn, IsAfter, LaneState, TurnWrote, Wrote, heard_by, turn_piece}
+use Rattle.lane_report.specs.Turned.{HeardTurn, IsAfter, TurnWrote, Wrote, heard_by, turn_piece}
 use Rattle.lane_report.specs.Works.{LaneWork, job_of}
 use Rattle.lane_report.proofs.Appending.{whole_next, part_next, part_front}
 use Rattle.lane_report.proofs.Closing.{some_same}
 
 -- What a field answers where it may answer so.
-after_reset : (well : Bool) (ask : Asked) (u t : Field) (h : Hearing) → AfterReset (told field) well u ask (Some h) t → field_send u ask.wave ask.bytes ≡ (Some h, t)
+after_reset : (well : Bool) (ask : Asked) (u t : Field) (h : Hearing) → AfterReset (told field) well u ask (Some h) t
+    → field_send u ask.wave ask.bytes ≡ (Some h, t)
 after_reset true ask u t h e = e
 after_reset false ask u t h e = let never : Some h ≡ None = e.0 in cc
 
@@ -40,9 +41,11 @@ by_reset true ask f t h e =
 answers_so : (ask : Asked) (f t : Field) (h : Hearing) → Exchanges (told field) f ask (Some h) t → field_answers ask f ≡ (Some h, t)
 answers_so ask f t h e = by_reset ask.reset ask f t h e
 
-module _ {P : Type 0} (answers : ProbeAnswers P) (settings : Settings) (traced : Bool) (fsdi lane : ℕ) (before after : Held Scripted) (p q : P) (turned : Turned)
-    (said : List Said) (work heard_work : LaneWork) (turn : (f : Field) → work.field ≡ Some f → HeardTurn answers lane before f p turned said after heard_work.field q)
-    (left : heard_work.left ≡ work.left) (number : heard_work.txn ≡ work.txn) (m : Made) (last : Some m ≡ after.last) (n : ℕ) (written_as : n ≡ heard_work.txn)
+module _ {P : Type 0} (answers : ProbeAnswers P) (settings : Settings) (traced : Bool) (fsdi lane : ℕ) (before after : Held Scripted) (p q : P)
+    (turned : Turned) (said : List Said) (work heard_work : LaneWork)
+    (turn : (f : Field) → work.field ≡ Some f → HeardTurn answers lane before f p turned said after heard_work.field q)
+    (left : heard_work.left ≡ work.left) (number : heard_work.txn ≡ work.txn) (m : Made) (last : Some m ≡ after.last) (n : ℕ)
+    (written_as : n ≡ heard_work.txn)
     (steps : ProbeSteps P) (tells : Tells answers steps) (g : Going) (shows : ShowsGoing settings fsdi (lane_of before lane) work g)
     (ask : Asked) (asked : asked_by fsdi g.lane.standing.doing ≡ Some ask) where
   this : HeardTurn answers lane before g.lane.field p turned said after heard_work.field q
@@ -131,8 +134,10 @@ module _ {P : Type 0} (answers : ProbeAnswers P) (settings : Settings) (traced :
   pub turn_part : (a b w : Option (List ℕ)) → Appends a b front → AppendsPrefix b w more.text
       → AppendsPrefix a w (turn_piece traced fsdi lane g ask (heard_by steps p lane g ask).1).text
   turn_part a b w wrote rest =
-      subst (λ (h : Hearing). AppendsPrefix a w (turn_piece traced fsdi lane g ask h).text) (sym heard_is) (part_next a b front more.text _ whole_is wrote w rest)
+      subst (λ (h : Hearing). AppendsPrefix a w (turn_piece traced fsdi lane g ask h).text) (sym heard_is)
+      (part_next a b front more.text _ whole_is wrote w rest)
 
-  pub turn_front : (a w : Option (List ℕ)) → AppendsPrefix a w front → AppendsPrefix a w (turn_piece traced fsdi lane g ask (heard_by steps p lane g ask).1).text
+  pub turn_front : (a w : Option (List ℕ)) → AppendsPrefix a w front
+      → AppendsPrefix a w (turn_piece traced fsdi lane g ask (heard_by steps p lane g ask).1).text
   turn_front a w part =
       subst (λ (h : Hearing). AppendsPrefix a w (turn_piece traced fsdi lane g ask h).text) (sym heard_is) (part_front a w front more.text _ whole_is part)

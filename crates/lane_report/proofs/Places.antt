@@ -1,5 +1,5 @@
 -- What lanes have to do by their numbers, where that of one of them changes.
-use Rattle.std.proofs.Common.{◌≡◌, ◌≢◌, ⊎_elim, ℕ, ◌-◌, ◌<◌, ◌≤◌, ◌==◌, Bool, true, false, List, length, get_or, slice_get, slice_set, slice_index_or, unwrap_or, refl, sym, ◌∙◌, ap, subst, arith}
+use Rattle.std.proofs.Common.{◌≡◌, ◌≢◌, ⊎_elim, ℕ, ◌-◌, ◌<◌, ◌≤◌, Bool, List, length, get_or, slice_get, slice_set, slice_index_or, unwrap_or, refl, sym, ◌∙◌, subst, arith}
 use Rattle.std.specs.Prelude.{if◌then◌else◌}
 use Rattle.std.proofs.lemmas.Bool.Decides.{eqb_tells}
 use Rattle.std.proofs.lemmas.List.{get_or-set_same, get_or-set_other}
@@ -28,7 +28,8 @@ module _ (works : List LaneWork) (i lane : ℕ) (e : i ≡ lane) (there : (1 ≤
   pub found : (d : LaneWork) → slice_index_or works (i - 1) d ≡ work_of works lane
   found d =
       subst (λ k. get_or works (k - 1) d ≡ work_of works lane) (sym e)
-      (sym (placed works lane there.0 ∙ get_or_from_slice_get works (lane - 1) (get_or works (lane - 1) d) no_work (slice_get-get_or works (lane - 1) d in_list)))
+      (sym (placed works lane there.0 ∙ get_or_from_slice_get works (lane - 1) (get_or works (lane - 1) d) no_work
+      (slice_get-get_or works (lane - 1) d in_list)))
 
   -- the one that changes
   pub changed : (w : LaneWork) → work_of (slice_set works (i - 1) w) lane ≡ w

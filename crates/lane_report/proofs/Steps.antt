@@ -1,5 +1,5 @@
 -- A turn of a lane is the next exchange of each run that the lanes show.
-use Rattle.std.proofs.Common.{◌≡◌, ◌≢◌, ⊎_elim, ℕ, ◌==◌, ◌≤◌, Bool, true, false, List, ◌++◌, length, refl, sym, ap, subst, ◌∙◌}
+use Rattle.std.proofs.Common.{◌≡◌, ◌≢◌, ⊎_elim, ℕ, ◌==◌, ◌≤◌, Bool, true, false, List, length, refl, sym, ap, subst, ◌∙◌}
 use Rattle.std.specs.Prelude.{Option, Some, None, is_some, if◌then◌else◌}
 use Rattle.std.proofs.lemmas.Bool.Decides.{eqb_tells}
 use Rattle.ep_base.specs.Configuration.{Settings}
@@ -16,8 +16,8 @@ use Rattle.ep_lanes.specs.Probing.{ProbeAnswers}
 use Rattle.ep_lanes.proofs.Numbering.{live_there}
 use Rattle.ep_lanes.proofs.Ordering.{same_turn, tells_live}
 use Rattle.ep_lanes.proofs.Standing.{asks_then}
-use Rattle.lane_report.specs.Shows.{Fits, FitsLane, ReportState, Shows, ShowsGoing, ShowsLane, Tells}
-use Rattle.lane_report.specs.Turned.{LaneCut, LaneState, LaneTurned, TurnCut, TurnTaken, TurnWrote, heard_by, turn_piece}
+use Rattle.lane_report.specs.Shows.{Fits, FitsLane, ReportState, Shows, ShowsGoing, ShowsLane}
+use Rattle.lane_report.specs.Turned.{LaneCut, LaneTurned, TurnCut, TurnTaken, TurnWrote, heard_by, turn_piece}
 use Rattle.lane_report.specs.Works.{LaneWork, work_of}
 use Rattle.lane_report.proofs.Appending.{with_more, wrote_since, prefix_more}
 
@@ -30,7 +30,8 @@ pub next_there : (h : Held Scripted) (works : List LaneWork) (lane : ℕ) → Fi
 next_there h works lane fits e = subst (λ n. (1 ≤ lane) × (lane ≤ n)) fits.count (live_there h.lanes lane (next_live h lane e))
 
 -- A lane is live exactly where the run's has an exchange left.
-live_shown : (settings : Settings) (fsdi : ℕ) (held : LaneHeld Scripted) (work : LaneWork) (o : Option Going) → ShowsLane settings fsdi held work o → held.live ≡ is_some o
+live_shown : (settings : Settings) (fsdi : ℕ) (held : LaneHeld Scripted) (work : LaneWork) (o : Option Going) → ShowsLane settings fsdi held work o
+    → held.live ≡ is_some o
 live_shown settings fsdi held work None h = ap (λ (l : LaneHeld Scripted). l.live) h
 live_shown settings fsdi held work (Some g) h = h.live
 
@@ -98,9 +99,11 @@ module _ {P : Type 0} (settings : Settings) (traced : Bool) (fsdi lane : ℕ) (b
     each_after : (k : ℕ) → ShowsLane settings fsdi (lane_of after.lanes k) (work_of after.works k) (if k == lane then piece.going else run.lanes k)
     each_after k =
         ⊎_elim
-        (λ x. subst (λ (b : Bool). ShowsLane settings fsdi (lane_of after.lanes k) (work_of after.works k) (if b then piece.going else run.lanes k)) (sym x.0)
+        (λ x. subst (λ (b : Bool). ShowsLane settings fsdi (lane_of after.lanes k) (work_of after.works k) (if b then piece.going else run.lanes k))
+        (sym x.0)
         (subst (λ j. ShowsLane settings fsdi (lane_of after.lanes j) (work_of after.works j) piece.going) (sym x.1) by_run.wrote.shows))
-        (λ x. subst (λ (b : Bool). ShowsLane settings fsdi (lane_of after.lanes k) (work_of after.works k) (if b then piece.going else run.lanes k)) (sym x.0)
+        (λ x. subst (λ (b : Bool). ShowsLane settings fsdi (lane_of after.lanes k) (work_of after.works k) (if b then piece.going else run.lanes k))
+        (sym x.0)
         (subst (λ (l : LaneHeld Scripted). ShowsLane settings fsdi l (work_of after.works k) (run.lanes k)) (sym (others k x.1))
         (subst (λ (w : LaneWork). ShowsLane settings fsdi (lane_of before.lanes k) w (run.lanes k)) (sym (other_works k x.1)) (shows.each k))))
         (eqb_tells k lane)
@@ -135,7 +138,8 @@ module _ {P : Type 0} (answers : ProbeAnswers P) (settings : Settings) (traced :
       (record { held = lane_of after.lanes lane; work = work_then; probe = after.probe; written = after.written })
       → TurnTaken answers settings traced fsdi before after
   turn_taken after work_then then_is order_is others other_works told law = λ steps tells start run shows.
-      of_turn settings traced fsdi lane before order turn fits.count (next_live before.lanes lane next) steps start run shows (Shows settings fsdi start after)
+      of_turn settings traced fsdi lane before order turn fits.count (next_live before.lanes lane next) steps start run shows
+      (Shows settings fsdi start after)
       (λ g shown ask asked.
       shows_after settings traced fsdi lane before order turn fits.count (next_live before.lanes lane next) steps start run shows after g ask
       (subst (λ (w : LaneWork). TurnWrote settings traced steps fsdi lane
@@ -154,7 +158,8 @@ module _ {P : Type 0} (answers : ProbeAnswers P) (settings : Settings) (traced :
       (record { held = lane_of before.lanes lane; work = work; probe = before.probe; written = before.written }) written
       → TurnCut answers settings traced fsdi before written
   turn_cut written law = λ steps tells start run shows.
-      of_turn settings traced fsdi lane before order turn fits.count (next_live before.lanes lane next) steps start run shows (λ r. AppendsPrefix start written r.text)
+      of_turn settings traced fsdi lane before order turn fits.count (next_live before.lanes lane next) steps start run shows
+      (λ r. AppendsPrefix start written r.text)
       (λ g shown ask asked.
       part_after settings traced fsdi lane before order turn fits.count (next_live before.lanes lane next) steps start run shows g ask written
       (law steps tells g (subst (λ (w : LaneWork). ShowsGoing settings fsdi (lane_of before.lanes lane) w g) (sym work_is) shown) ask asked))

@@ -1,7 +1,6 @@
 -- What a transaction comes to when it is begun (this project's own).
-use Rattle.std.specs.Prelude.{◌≡◌, ℕ, Bool, true, false, List, [], ◌++◌, if◌then◌else◌, Option, Some, None, is_some}
+use Rattle.std.specs.Prelude.{◌≡◌, ℕ, Bool, List, [], ◌++◌, if◌then◌else◌, Option, Some, None, is_some}
 use Rattle.ep_base.specs.Configuration.{Settings}
-use Rattle.ep_base.specs.Field.{Field}
 use Rattle.ep_base.specs.Hearing.{Asked}
 use Rattle.ep_base.specs.Kernel.{Scripted, scripted}
 use Rattle.ep_base.specs.WrittenText.{event_lines, log_lines}

@@ -1,5 +1,5 @@
 -- What a turn of a lane comes to (this project's own).
-use Rattle.std.specs.Prelude.{◌≡◌, ℕ, Bool, List, ◌++◌, length, Option, Some}
+use Rattle.std.specs.Prelude.{◌≡◌, ℕ, Bool, List, length, Option, Some}
 use Rattle.std.specs.Io.KnownBytes.{Appends}
 use Rattle.ep_base.specs.Configuration.{Settings}
 use Rattle.ep_base.specs.Field.{Field, field}

@@ -1,4 +1,4 @@
-use Rattle.std.proofs.Common.{arith, ◌≡◌, ◌∙◌, sym, subst, Bool, true, false}
+use Rattle.std.proofs.Common.{arith, ◌∙◌, sym, subst, Bool, false}
 use Rattle.ep_lanes.specs.Lanes.{lane_of}
 use Rattle.lane_report.specs.Begun.{BegunLane}
 use Rattle.lane_report.specs.Shows.{held_of}
@@ -12,9 +12,12 @@ each-preserved g c =
     let next = c.in-Some.ensures.next in
     let held = lane_of (held_of c.begin_one.new.lanes) c.args.lane in
     let begun : BegunLane c.args.config.now c.args.fsdi c.in-Some.job held c.next_job.new.self c.begin_one.new.work false =
-    subst (λ (b : Bool). BegunLane c.args.config.now c.args.fsdi c.in-Some.job held c.next_job.new.self c.begin_one.new.work b) c.in-Ok-false.field-0-test c.in-Ok-false.ensures.begun in
-    let split = text_passed c.args.config.now c.args.fsdi c.args.lane c.in-Some.job c.each.work c.next_job.new.self next.0 next.1 held c.begin_one.new.work begun in
-    let going = going_after c.args.config.now c.args.fsdi c.args.lane c.in-Some.job c.each.work c.next_job.new.self next.0 next.1 held c.begin_one.new.work begun in
+    subst (λ (b : Bool). BegunLane c.args.config.now c.args.fsdi c.in-Some.job held c.next_job.new.self c.begin_one.new.work b)
+    c.in-Ok-false.field-0-test c.in-Ok-false.ensures.begun in
+    let split = text_passed c.args.config.now c.args.fsdi c.args.lane c.in-Some.job c.each.work c.next_job.new.self next.0 next.1 held
+    c.begin_one.new.work begun in
+    let going = going_after c.args.config.now c.args.fsdi c.args.lane c.in-Some.job c.each.work c.next_job.new.self next.0 next.1 held
+    c.begin_one.new.work begun in
     record {
       ok = λ w h. at.ok w (whole_next _ _ _ _ _ split c.in-Ok-false.ensures.ok w h);
       err = λ w h. at.err w (part_next _ _ _ _ _ split c.in-Ok-false.ensures.ok w h);

@@ -21,6 +21,7 @@ all_new settings works a b d e fa fb fd =
 
 pub returns-clause-new : goal.returns-clause-new
 returns-clause-new c =
-    let items : c.in-Ok.works.items ≡ new_work (c.in_ok-job.field-0 ∷ c.in_ok-job-2.field-0 ∷ []) ∷ new_work (c.in_ok-job-3.field-0 ∷ []) ∷ [] = search rules in
+    let items : c.in-Ok.works.items
+    ≡ new_work (c.in_ok-job.field-0 ∷ c.in_ok-job-2.field-0 ∷ []) ∷ new_work (c.in_ok-job-3.field-0 ∷ []) ∷ [] = search rules in
     all_new c.args.config.now c.in-Ok.works.items c.in_ok-job.field-0 c.in_ok-job-2.field-0 c.in_ok-job-3.field-0 items
     c.in_ok-job.ensures c.in_ok-job-2.ensures c.in_ok-job-3.ensures

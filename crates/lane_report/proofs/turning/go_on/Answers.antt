@@ -1,12 +1,11 @@
-use Rattle.std.proofs.Common.{◌≡◌}
-use Rattle.std.proofs.lemmas.Result.{on_ok_weaker}
 use Rattle.ep_lanes.specs.Lanes.{lane_of}
 use Rattle.lane_report.specs.Shows.{held_of}
-use Rattle.lane_report.proofs.Closing.{ended_wrote, ended_part, on_err_weaker}
+use Rattle.lane_report.proofs.Closing.{ended_part, on_err_weaker}
 use Rattle.lane_report.proofs.turning.go_on.Goals as goal
 
 pub returns-in-Ended-clause-err : goal.returns-in-Ended-clause-err
 returns-in-Ended-clause-err g c =
     on_err_weaker c.close_and_next.result
-    (λ part after l h. ended_part c.args.config.now c.args.fsdi c.args.lane (lane_of (held_of c.args.lanes.now) c.args.lane) c.args.work.now after l c.args.turned _ c.in-Ended.is _ _ part h)
+    (λ part after l h. ended_part c.args.config.now c.args.fsdi c.args.lane
+    (lane_of (held_of c.args.lanes.now) c.args.lane) c.args.work.now after l c.args.turned _ c.in-Ended.is _ _ part h)
     c.close_and_next.ensures.err

@@ -1,4 +1,4 @@
-use Rattle.std.proofs.Common.{arith, ◌≡◌, ◌-◌, ◌∙◌, refl, sym, ap, subst, is_some, slice_index_or, slice_set}
+use Rattle.std.proofs.Common.{arith, ◌-◌, ◌∙◌, refl, ap, is_some, slice_index_or, slice_set}
 use Rattle.std.proofs.lemmas.List.{length-set}
 use Rattle.std.proofs.lemmas.Result.{on_ok_weaker}
 use Rattle.lane_report.specs.Shows.{held_of}
@@ -14,7 +14,8 @@ overflow_sub-work g c =
 
 pub bounds-works-from : goal.bounds-works-from
 bounds-works-from g c =
-    let there = next_there (held_of c.args.lanes.now) c.args.works.now c.args.lane c.requires.fits c.requires.next in omega (arith, there.0, there.1, c.from.ensures)
+    let there = next_there (held_of c.args.lanes.now) c.args.works.now c.args.lane c.requires.fits c.requires.next in
+    omega (arith, there.0, there.1, c.from.ensures)
 
 pub turn_lane-requires-clause-opened : goal.turn_lane-requires-clause-opened
 turn_lane-requires-clause-opened g c = (c.requires.fits.each c.args.lane).opened ∙ next_live (held_of c.args.lanes.now) c.args.lane c.requires.next
@@ -30,7 +31,12 @@ returns-clause-ok g c =
     let there = next_there (held_of c.args.lanes.now) c.args.works.now c.args.lane c.requires.fits c.requires.next in
     on_ok_weaker c.turn_lane.result
     (turn_taken g.P.Probe.steps c.args.config.now c.args.traced c.args.fsdi c.args.lane
-    (record { lanes = held_of c.args.lanes.now; works = c.args.works.now; probe = g.P.Probe.state c.args.probe.now; written = g.K.Sink.written c.args.output.now })
+    (record {
+      lanes = held_of c.args.lanes.now;
+      works = c.args.works.now;
+      probe = g.P.Probe.state c.args.probe.now;
+      written = g.K.Sink.written c.args.output.now;
+    })
     (held_of c.turn_lane.new.lanes).order c.turn_lane.ensures.order c.requires.next c.requires.fits
     (slice_index_or c.args.works.now (c.from.result - 1) c.index-works-from.result)
     (found c.args.works.now c.from.result c.args.lane c.from.ensures there c.index-works-from.result)
@@ -48,7 +54,8 @@ pub returns-clause-fits : goal.returns-clause-fits
 returns-clause-fits g c =
     let there = next_there (held_of c.args.lanes.now) c.args.works.now c.args.lane c.requires.fits c.requires.next in
     on_ok_weaker c.turn_lane.result
-    (fits_after (held_of c.args.lanes.now) (held_of c.turn_lane.new.lanes) c.args.works.now (slice_set c.args.works.now (c.from.result - 1) c.turn_lane.new.work)
+    (fits_after (held_of c.args.lanes.now) (held_of c.turn_lane.new.lanes) c.args.works.now
+    (slice_set c.args.works.now (c.from.result - 1) c.turn_lane.new.work)
     c.args.lane c.turn_lane.new.work c.requires.fits c.turn_lane.ensures.count (length-set c.args.works.now (c.from.result - 1) c.turn_lane.new.work)
     (changed c.args.works.now c.from.result c.args.lane c.from.ensures there c.turn_lane.new.work)
     c.turn_lane.ensures.others (others c.args.works.now c.from.result c.args.lane c.from.ensures there c.turn_lane.new.work))
@@ -59,7 +66,12 @@ returns-clause-err g c =
     let there = next_there (held_of c.args.lanes.now) c.args.works.now c.args.lane c.requires.fits c.requires.next in
     on_err_weaker c.turn_lane.result
     (turn_cut g.P.Probe.steps c.args.config.now c.args.traced c.args.fsdi c.args.lane
-    (record { lanes = held_of c.args.lanes.now; works = c.args.works.now; probe = g.P.Probe.state c.args.probe.now; written = g.K.Sink.written c.args.output.now })
+    (record {
+      lanes = held_of c.args.lanes.now;
+      works = c.args.works.now;
+      probe = g.P.Probe.state c.args.probe.now;
+      written = g.K.Sink.written c.args.output.now;
+    })
     (held_of c.turn_lane.new.lanes).order c.turn_lane.ensures.order c.requires.next c.requires.fits
     (slice_index_or c.args.works.now (c.from.result - 1) c.index-works-from.result)
     (found c.args.works.now c.from.result c.args.lane c.from.ensures there c.index-works-from.result)

@@ -1,4 +1,4 @@
-use Rattle.std.proofs.Common.{rules, arith, ◌≡◌, ◌∙◌, ap}
+use Rattle.std.proofs.Common.{rules, arith, ◌∙◌, ap}
 use Rattle.std.specs.Io.KnownBytes.{Appends}
 use Rattle.ep_base.specs.ReportLine.{line_of}
 use Rattle.ep_base.specs.WrittenText.{event_lines}
@@ -10,7 +10,8 @@ use Rattle.lane_report.proofs.writing.write_events.Goals as goal
 pub each-preserved : goal.each-preserved
 each-preserved g c =
     let split = ap (λ events. event_lines c.args.lane c.args.txn (told_by events)) c.in-Some.ensures.cases.0 in
-    let wrote : Appends (g.K.Sink.written c.each.output) (g.K.Sink.written c.push_all.new.sink) (line_of c.args.lane c.args.txn (said_of c.in-Some.event.now)) = search rules in
+    let wrote : Appends (g.K.Sink.written c.each.output) (g.K.Sink.written c.push_all.new.sink)
+    (line_of c.args.lane c.args.txn (said_of c.in-Some.event.now)) = search rules in
     record {
       ok = λ w h. c.each.invariant.ok w (whole_next _ _ _ _ _ split wrote w h);
       err = λ w h. c.each.invariant.err w (part_next _ _ _ _ _ split wrote w h);

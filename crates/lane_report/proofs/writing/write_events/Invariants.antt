@@ -2,7 +2,7 @@ use Rattle.std.proofs.Common.{◌≡◌, ◌≤◌, ℕ, List, length, Option}
 use Rattle.std.specs.Prelude.{is_some}
 use Rattle.std.specs.Io.KnownBytes.{Appends}
 use Rattle.ep_base.specs.Io.{AppendsPrefix}
-use Rattle.ep_base.specs.WrittenText.{event_lines, log_lines}
+use Rattle.ep_base.specs.WrittenText.{event_lines}
 use Rattle.session_phases.specs.Told.{told_by}
 use Rattle.lane_report.proofs.writing.write_events.Given as goal
 
@@ -11,8 +11,10 @@ abbrev pub invariant-each : goal.invariant-each
 invariant-each g l =
     let K = g.K.Sink in
     record {
-      ok : (w : Option (List ℕ)) → Appends (K.written l.output) w (event_lines l.lane l.txn (told_by l.rest)) → Appends (K.written l.fn.output) w (event_lines l.lane l.txn (told_by l.fn.events.items));
-      err : (w : Option (List ℕ)) → AppendsPrefix (K.written l.output) w (event_lines l.lane l.txn (told_by l.rest)) → AppendsPrefix (K.written l.fn.output) w (event_lines l.lane l.txn (told_by l.fn.events.items));
+      ok : (w : Option (List ℕ)) → Appends (K.written l.output) w (event_lines l.lane l.txn (told_by l.rest))
+          → Appends (K.written l.fn.output) w (event_lines l.lane l.txn (told_by l.fn.events.items));
+      err : (w : Option (List ℕ)) → AppendsPrefix (K.written l.output) w (event_lines l.lane l.txn (told_by l.rest))
+          → AppendsPrefix (K.written l.fn.output) w (event_lines l.lane l.txn (told_by l.fn.events.items));
       told : is_some (K.written l.output) ≡ is_some (K.written l.fn.output);
       later : K.faults l.fn.output ≤ K.faults l.output;
     }

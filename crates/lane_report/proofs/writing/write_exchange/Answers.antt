@@ -1,4 +1,3 @@
-use Rattle.std.proofs.Common.{List}
 use Rattle.lane_report.proofs.Appending.{part_then}
 use Rattle.lane_report.proofs.writing.write_exchange.Goals as goal
 

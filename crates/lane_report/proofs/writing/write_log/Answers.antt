@@ -1,4 +1,4 @@
-use Rattle.std.proofs.Common.{rules, arith, ◌≡◌, ◌∙◌, ap}
+use Rattle.std.proofs.Common.{rules, arith, ◌∙◌, ap}
 use Rattle.std.specs.Io.KnownBytes.{Appends}
 use Rattle.ep_base.specs.ReportLine.{log_line}
 use Rattle.ep_base.specs.WrittenText.{log_lines}
@@ -8,7 +8,8 @@ use Rattle.lane_report.proofs.writing.write_log.Goals as goal
 pub each-preserved : goal.each-preserved
 each-preserved g c =
     let split = ap (log_lines c.args.lane c.args.txn) c.in-Some.ensures.cases.0 in
-    let wrote : Appends (g.K.Sink.written c.each.output) (g.K.Sink.written c.push_all.new.sink) (log_line c.args.lane c.args.txn c.in-Some.entry.now) = search rules in
+    let wrote : Appends (g.K.Sink.written c.each.output) (g.K.Sink.written c.push_all.new.sink)
+    (log_line c.args.lane c.args.txn c.in-Some.entry.now) = search rules in
     record {
       ok = λ w h. c.each.invariant.ok w (whole_next _ _ _ _ _ split wrote w h);
       err = λ w h. c.each.invariant.err w (part_next _ _ _ _ _ split wrote w h);
