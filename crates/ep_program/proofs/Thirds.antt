@@ -1,5 +1,5 @@
 -- A transaction ends where an exchange of a command is the third bad one.
-use Rattle.std.proofs.Common.{◌≡◌, ℕ, suc, ◌≤◌, Bool, false, if◌then◌else◌, nat_lt, ap, ◌∙◌, arith, Option, Some}
+use Rattle.std.proofs.Common.{◌≡◌, ℕ, suc, ◌≤◌, Bool, false, if◌then◌else◌, nat_lt, ap, ◌∙◌, arith}
 use Rattle.std.proofs.lemmas.Bool.Decides.{nat_tests}
 use Rattle.ep_base.specs.Block.{Heard, Bad, is_bad, count}
 use Rattle.ep_base.specs.Hearing.{Asked}
@@ -13,7 +13,7 @@ use Rattle.law_lane.specs.Standing.{Doing, Carries, Stopped, asked_by, asks_bloc
 use Rattle.law_turns.specs.LaneText.{Job}
 use Rattle.law_turns.proofs.Stepping.{times_end}
 use Rattle.law_turns.specs.Telling.{job_after}
-use Rattle.ep_program.specs.Promise.{IsThirdBad, FailsAtThird}
+use Rattle.ep_program.specs.Promise.{FailsAtThird}
 
 third : (n : ℕ) → 2 ≤ n → nat_lt (suc n) 3 ≡ false
 third n two = grind (arith, nat_tests)
