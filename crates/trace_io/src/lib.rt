@@ -12,7 +12,7 @@ mod replay;
 
 pub use laws::{fails_for_good, failure_is_held, one_reading, written_is_read};
 pub use line::{Shown, TraceLine, trace_line};
-pub use mismatch::Mismatch;
+pub use mismatch::{Mismatch, mismatch_text};
 pub use reading::read_trace_line;
 pub use replay::Replay;
 

@@ -1,5 +1,5 @@
 //! An exchange, and its line.
-ghost use Rattle.std.specs.Prelude.{◌≡◌, ◌≤◌, ◌++◌, [], length};
+ghost use Rattle.std.specs.Prelude.{◌≡◌, ◌≤◌, ◌+◌, ◌++◌, [], length};
 ghost use Rattle.ep_base.specs.TraceLine.{heard_text, shown_text, trace_line};
 ghost use Rattle.ep_base.specs.ReplayRun.{same_shown};
 ghost use Rattle.rf_frame.specs.Meaning.{heard_of};
@@ -80,11 +80,11 @@ pub fn trace_line(line: &TraceLine, out: &mut Line)
     out.push_str("\n");
 }
 
-// What was sent.
-fn push_shown(sent: &Shown, out: &mut Line)
-    requires { length out.old.bytes ≤ 2 }
+/// What was sent.
+pub(crate) fn push_shown(sent: &Shown, out: &mut Line)
+    requires { length out.old.bytes ≤ 640 }
     ensures text { out.new.bytes ≡ out.old.bytes ++ shown_text sent.now }
-    ensures most { length out.new.bytes ≤ 600 }
+    ensures most { length out.new.bytes ≤ length out.old.bytes + 560 }
 {
     push_number(u64::from(sent.lane), out);
     out.push_str(" ");

@@ -1,5 +1,10 @@
 //! Where a run and a trace differ.
-use crate::Shown;
+ghost use Rattle.std.specs.Prelude.{◌≡◌, ◌≤◌, ◌+◌, ◌++◌, [], length};
+ghost use Rattle.trace_io.specs.MismatchText.{mismatch_text, side_text};
+
+use crate::line::{Shown, push_shown};
+use crate::pieces::push_number;
+use ep_base::Line;
 use std::marker::Model;
 
 /// The first place at which a run and a trace differ.
@@ -21,4 +26,31 @@ impl Model for Mismatch {
     ghost view = { λ m. record { place = m.place; wanted = m.wanted; got = m.got } };
 
     ghost inverse = { λ m. record { place = m.place; wanted = m.wanted; got = m.got } };
+}
+
+/// Writes where a run and a trace differ first, without a newline: the place, what the trace's line wants, and what was
+/// sent, each as in a trace line. `out` is empty, and every text fits.
+#[tactic(auto, unfolding(crate::specs::MismatchText::mismatch_text))]
+pub fn mismatch_text(mismatch: &Mismatch, out: &mut Line)
+    requires { out.old.bytes ≡ [] }
+    ensures { out.new.bytes ≡ mismatch_text mismatch.now }
+{
+    out.push_str("ep_program: mismatch at ");
+    push_number(u64::from(mismatch.place), out);
+    out.push_str(": wanted ");
+    push_side(&mismatch.wanted, out);
+    out.push_str(", got ");
+    push_side(&mismatch.got, out);
+}
+
+// What was sent, or nothing.
+fn push_side(side: &Option<Shown>, out: &mut Line)
+    requires { length out.old.bytes ≤ 640 }
+    ensures text { out.new.bytes ≡ out.old.bytes ++ side_text side.now }
+    ensures most { length out.new.bytes ≤ length out.old.bytes + 560 }
+{
+    match side {
+        Some(sent) => push_shown(sent, out),
+        None => out.push_str("nothing"),
+    }
 }

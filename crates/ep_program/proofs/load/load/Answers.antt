@@ -1,4 +1,4 @@
-use Rattle.std.proofs.Common.{◌≡◌, ◌∙◌, refl, subst}
+use Rattle.std.proofs.Common.{◌≡◌, ◌∙◌, subst}
 use Rattle.std.specs.Io.KnownBytes.{Appends}
 use Rattle.ep_base.specs.Io.{AppendsPrefix}
 use Rattle.load_run.specs.Summary.{summary_line_of}
@@ -9,8 +9,7 @@ pub returns-in-Ok-push_all-clause-loads : goal.returns-in-Ok-push_all-clause-loa
 returns-in-Ok-push_all-clause-loads g c =
     let is : c.as_bytes.result.now ≡ summary_line_of c.args.seed c.args.count c.run_load-counts.result = cc in (
       summary_line_of c.args.seed c.args.count c.run_load-counts.result,
-      is_summary (λ lane. lane.items) c.args.seed c.args.count _ c.scenario.inside.lanes.items c.run_load-counts.result
-          (c.scenario.view_is ∙ c.in-Ok.ensures.scene) refl c.run_load-counts.ensures.total,
+      is_summary c.args.seed c.args.count _ c.run_load-counts.result (c.scenario.view_is ∙ c.in-Ok.ensures.scene) c.run_load-counts.ensures.total,
       subst (λ text. Appends (g.K.Sink.written c.args.output.now) (g.K.Sink.written c.push_all.new.sink) text) is c.in-Ok-push_all.ensures.ok,
     )
 
@@ -18,7 +17,6 @@ pub returns-clause-loads : goal.returns-clause-loads
 returns-clause-loads g c =
     let is : c.as_bytes.result.now ≡ summary_line_of c.args.seed c.args.count c.run_load-counts.result = cc in (
       summary_line_of c.args.seed c.args.count c.run_load-counts.result,
-      is_summary (λ lane. lane.items) c.args.seed c.args.count _ c.scenario.inside.lanes.items c.run_load-counts.result
-          (c.scenario.view_is ∙ c.in-Ok.ensures.scene) refl c.run_load-counts.ensures.total,
+      is_summary c.args.seed c.args.count _ c.run_load-counts.result (c.scenario.view_is ∙ c.in-Ok.ensures.scene) c.run_load-counts.ensures.total,
       subst (λ text. AppendsPrefix (g.K.Sink.written c.args.output.now) (g.K.Sink.written c.push_all.new.sink) text) is c.in-Err.ensures.err,
     )
