@@ -11,3 +11,6 @@ mod turning;
 pub use ending::ReplayEnd;
 pub use laws::{one_end, replays_stay, replays_stop, texts_grow};
 pub use run::replay_lanes;
+
+#[cfg(test)]
+mod tests;
