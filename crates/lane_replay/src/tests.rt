@@ -1,9 +1,9 @@
 //! Whole replays of a purchase with a card that has no directory: what no clause says is their text and their lines.
-ghost use Rattle.std.specs.Prelude.{◌≡◌, All, IfOk, length};
+ghost use Rattle.std.specs.Prelude.{IfOk};
 ghost use Rattle.lane_replay.specs.Replayed.{IsFirst};
 
 use super::*;
-use ep_base::{FrameBuf, MemorySink, Wave};
+use ep_base::MemorySink;
 use ep_lanes::Lanes;
 use lane_report::LaneJobs;
 use scenario::{Job, Scenario};
