@@ -1,6 +1,6 @@
 -- What a trace answers, and the lines that are left of it.
-use Rattle.std.proofs.Common.{◌≡◌, ℕ, ◌+◌, ◌-◌, ◌<◌, ◌≤◌, Bool, true, false, List, length, refl, sym, ap, subst, ◌∙◌, arith, Option, Some, None, is_some}
-use Rattle.std.specs.Prelude.{slice_get, if◌then◌else◌}
+use Rattle.std.proofs.Common.{◌≡◌, ℕ, ◌<◌, Bool, true, false, refl, ap, subst, arith, Option, Some, None, is_some}
+use Rattle.std.specs.Prelude.{if◌then◌else◌}
 use Rattle.std.proofs.lemmas.Option.{slice_get_within}
 use Rattle.ep_base.specs.Hearing.{Asked, Hearing}
 use Rattle.ep_base.specs.ReplayRun.{Mismatch, Replaying, at_lane, compared, failing, next_line, same_shown, sends_unless, took}

@@ -3,12 +3,9 @@ use Rattle.std.proofs.Common.{◌≡◌, ℕ, ◌+◌, Bool, true, false, List, 
 use Rattle.std.proofs.lemmas.List.{length-map}
 use Rattle.ep_base.specs.Configuration.{Settings}
 use Rattle.ep_base.specs.Io.{AppendsPrefix}
-use Rattle.ep_base.specs.Kernel.{Scripted}
 use Rattle.ep_base.specs.ReplayRun.{Mismatch, Replaying, ends_unless, finishes, left_over, next_line}
 use Rattle.ep_base.specs.Talk.{Talk}
 use Rattle.ep_base.specs.TraceLine.{Traced}
-use Rattle.ep_lanes.specs.Lanes.{Held}
-use Rattle.lane_report.specs.Works.{LaneWork}
 use Rattle.lane_report.proofs.Appending.{prefix_front, wrote_since}
 use Rattle.lane_replay.specs.Made.{EndCut, EndShown, TurnsCut, TurnsMade}
 use Rattle.lane_replay.specs.Replayed.{LanesOpened, Replayed, ReplayedPart}

@@ -1,5 +1,5 @@
 -- What follows an exchange.
-use Rattle.std.proofs.Common.{◌≡◌, ℕ, ◌+◌, List, [], true, false, map, refl, sym, ap, subst, ◌∙◌}
+use Rattle.std.proofs.Common.{◌≡◌, ℕ, ◌+◌, List, [], true, false, refl, sym, ap, subst, ◌∙◌}
 use Rattle.std.specs.Prelude.{Option, Some, None, is_some}
 use Rattle.std.specs.Io.KnownBytes.{Appends}
 use Rattle.ep_base.specs.Configuration.{Settings}

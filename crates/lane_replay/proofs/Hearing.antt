@@ -1,5 +1,5 @@
 -- An exchange of a lane against a trace, as a replay makes it.
-use Rattle.std.proofs.Common.{◌≡◌, ℕ, ◌+◌, ◌<◌, Bool, true, false, List, ◌++◌, length, drop, refl, sym, ap, subst, ◌∙◌}
+use Rattle.std.proofs.Common.{◌≡◌, ℕ, ◌<◌, Bool, true, false, List, ◌++◌, length, drop, refl, sym, ap, subst, ◌∙◌}
 use Rattle.std.specs.Prelude.{Option, Some, None}
 use Rattle.std.specs.Io.KnownBytes.{Appends}
 use Rattle.std.proofs.Math.Seq.{drop-append_seam}
@@ -21,7 +21,7 @@ use Rattle.lane_report.proofs.Appending.{whole_next, part_next, part_front}
 use Rattle.lane_report.proofs.Closing.{some_same}
 use Rattle.lane_replay.specs.LaneText.{Piece, Waiting, goes_on, heard_piece}
 use Rattle.lane_replay.specs.Shows.{ShowsWaiting}
-use Rattle.lane_replay.specs.Turned.{HeardLine, HeardPart, IsAfter, LaneHeard, LaneDiffers, LaneState, OtherLine, Wrote, lines_left}
+use Rattle.lane_replay.specs.Turned.{HeardLine, HeardPart, IsAfter, LaneHeard, LaneDiffers, OtherLine, Wrote, lines_left}
 use Rattle.lane_replay.specs.WholeReplay.{answered}
 use Rattle.lane_replay.proofs.Answering.{answer_of}
 

@@ -4,6 +4,7 @@ pub mod Finishing
 pub mod Going
 pub mod Hearing
 pub mod Making
+pub mod Matching
 pub mod Opened
 pub mod Stepping
 pub mod Stopping

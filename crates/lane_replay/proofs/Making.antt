@@ -1,8 +1,7 @@
 -- Turns of a replay, one after another, until it has stopped.
-use Rattle.std.proofs.Common.{◌≡◌, ℕ, zero, suc, ◌+◌, ◌<◌, true, false, List, length, refl, sym, ap, subst, ◌∙◌, arith, Option, Some, None}
+use Rattle.std.proofs.Common.{◌≡◌, ℕ, zero, suc, ◌+◌, true, false, List, length, refl, sym, ap, subst, ◌∙◌, arith, Option, Some, None}
 use Rattle.ep_base.specs.Configuration.{Settings}
 use Rattle.ep_base.specs.Io.{AppendsPrefix}
-use Rattle.ep_base.specs.Lanes.{times}
 use Rattle.ep_base.specs.ReplayRun.{Mismatch}
 use Rattle.law_turns.specs.Order.{Order, next_turn}
 use Rattle.ep_lanes.specs.Lanes.{lane_of, is_live, count_of, next_of, lane_in, next_lane}

@@ -1,5 +1,5 @@
 -- Lanes that are opened one after another.
-use Rattle.std.proofs.Common.{◌≡◌, ◌≢◌, ⊎_elim, ℕ, ◌+◌, ◌-◌, ◌<◌, ◌≤◌, ◌==◌, zero, suc, true, List, [], ◌∷◌, ◌++◌, length, drop, get_or, slice_set, All, Option, Some, None, rules, refl, sym, ap, subst, ◌∙◌, arith}
+use Rattle.std.proofs.Common.{◌≡◌, ◌≢◌, ⊎_elim, ℕ, ◌+◌, ◌-◌, ◌<◌, ◌≤◌, zero, suc, List, [], ◌∷◌, ◌++◌, length, drop, get_or, slice_set, All, Option, None, rules, refl, sym, ap, subst, ◌∙◌, arith}
 use Rattle.std.specs.Prelude.{if◌then◌else◌}
 use Rattle.std.proofs.lemmas.Bool.Decides.{eqb_tells, leb_tells}
 use Rattle.std.proofs.lemmas.List.{length-replicate, get_or-map, drop_more, drop_all, length-map}
@@ -7,7 +7,6 @@ use Rattle.std.proofs.lemmas.List.Elements.{All-get_or}
 use Rattle.ep_base.specs.Configuration.{Settings}
 use Rattle.ep_base.specs.Kernel.{Scripted}
 use Rattle.ep_base.specs.ReplayRun.{Replaying, begun}
-use Rattle.ep_base.specs.Talk.{Talk}
 use Rattle.ep_lanes.specs.Lanes.{LaneHeld, Held, no_lane, new_lane, lane_of, count_of, new_lanes}
 use Rattle.ep_lanes.proofs.Numbering.{past_all}
 use Rattle.law_turns.proofs.Stepping.{choose}
@@ -16,10 +15,10 @@ use Rattle.lane_report.specs.Written.{with_text}
 use Rattle.lane_report.proofs.Numbering.{work_past, item_is, work_here, work_elsewhere}
 use Rattle.lane_report.proofs.Opened.{new_at}
 use Rattle.lane_report.proofs.Places as place
-use Rattle.lane_replay.specs.LaneText.{Waiting, opens}
+use Rattle.lane_replay.specs.LaneText.{opens}
 use Rattle.lane_replay.specs.Replayed.{IsFirst}
-use Rattle.lane_replay.specs.Shows.{Fits, IsOpened, ReplayState, Shows, ShowsLane, all_talks, talks_of}
-use Rattle.lane_replay.specs.WholeReplay.{LaneReplay, opened_replay, opening_lanes, opening_text}
+use Rattle.lane_replay.specs.Shows.{Fits, IsOpened, Shows, ShowsLane, all_talks, talks_of}
+use Rattle.lane_replay.specs.WholeReplay.{opened_replay, opening_lanes, opening_text}
 
 -- a lane shows what these transactions of it come to once they are opened
 abbrev pub ShowsBegun : Settings → (fsdi lane : ℕ) → LaneHeld Scripted → (work todo : LaneWork) → Type 0

@@ -1,5 +1,5 @@
 -- What a replay's next exchange comes to.
-use Rattle.std.proofs.Common.{◌≡◌, ℕ, zero, suc, Bool, true, false, refl, sym, ap, subst, ◌∙◌, Option, Some, None, is_some}
+use Rattle.std.proofs.Common.{◌≡◌, ℕ, zero, suc, true, false, refl, sym, ap, subst, ◌∙◌, Option, Some, None, is_some}
 use Rattle.ep_base.specs.Hearing.{Hearing}
 use Rattle.ep_base.specs.Lanes.{times}
 use Rattle.ep_base.specs.ReplayRun.{Mismatch, Replaying}

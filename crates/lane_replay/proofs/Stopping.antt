@@ -1,16 +1,15 @@
 -- A replay stops, once, and its text grows until then.
-use Rattle.std.proofs.Common.{◌≡◌, ⊎_elim, ℕ, zero, suc, ◌+◌, ◌-◌, ◌<◌, ◌≤◌, true, List, [], ◌++◌, length, refl, sym, ap, subst, ◌∙◌, append_assoc, arith, Option, Some, None}
+use Rattle.std.proofs.Common.{◌≡◌, ⊎_elim, ℕ, zero, suc, ◌+◌, ◌-◌, ◌<◌, List, [], ◌++◌, length, refl, sym, ap, subst, ◌∙◌, append_assoc, arith, Some, None}
 use Rattle.std.proofs.lemmas.Bool.Decides.{leb_tells}
 use Rattle.std.proofs.lemmas.List.{append-nil}
 use Rattle.ep_base.specs.Lanes.{times}
-use Rattle.ep_base.specs.ReplayRun.{Mismatch}
 use Rattle.ep_base.specs.Talk.{Talk}
 use Rattle.ep_base.specs.TraceLine.{Traced}
 use Rattle.law_lane.proofs.Moving.{times_more}
 use Rattle.lane_replay.specs.LaneText.{heard_piece}
 use Rattle.lane_replay.specs.Stopping.{OneEnd, ReplaysStay, ReplaysStop, TextsGrow}
 use Rattle.lane_replay.specs.Turned.{lines_left}
-use Rattle.lane_replay.specs.WholeReplay.{HasStopped, LaneReplay, ReplayEnds, first_mismatch, hears, opened_replay, replay_after, replay_step}
+use Rattle.lane_replay.specs.WholeReplay.{HasStopped, LaneReplay, first_mismatch, hears, opened_replay, replay_after, replay_step}
 use Rattle.lane_replay.proofs.Answering.{answer_of}
 use Rattle.lane_replay.proofs.Stepping.{by_step, failed_stopped, stopped_same}
 

@@ -1,5 +1,5 @@
 -- What all turns of a replay come to (this project's own).
-use Rattle.std.specs.Prelude.{◌≡◌, ℕ, List, length, Option}
+use Rattle.std.specs.Prelude.{ℕ, List, length, Option}
 use Rattle.ep_base.specs.Configuration.{Settings}
 use Rattle.ep_base.specs.Io.{AppendsPrefix}
 use Rattle.ep_base.specs.Lanes.{times}

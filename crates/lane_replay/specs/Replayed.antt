@@ -1,5 +1,5 @@
 -- What a replay of several lanes comes to (this project's own).
-use Rattle.std.specs.Prelude.{◌≡◌, ℕ, List, length, Option, None}
+use Rattle.std.specs.Prelude.{◌≡◌, ℕ, List, Option}
 use Rattle.std.specs.Io.KnownBytes.{Appends}
 use Rattle.ep_base.specs.Configuration.{Settings}
 use Rattle.ep_base.specs.Io.{AppendsPrefix}

@@ -8,7 +8,6 @@ use Rattle.ep_base.specs.Kernel.{Scripted, scripted}
 use Rattle.ep_base.specs.Medium as media
 use Rattle.ep_base.specs.ReplayRun.{Replaying, at_lane, replay}
 use Rattle.ep_base.specs.Said.{Said}
-use Rattle.ep_base.specs.Talk.{Talk}
 use Rattle.law_lane.specs.Standing.{Standing, asked_by, started}
 use Rattle.law_turns.specs.WholeRun.{open_probe}
 use Rattle.ep_lanes.specs.Lanes.{Held, LaneHeld}

@@ -6,7 +6,7 @@ use Rattle.ep_base.specs.ReplayRun.{Mismatch, Replaying, at_lane, begun, finishe
 use Rattle.ep_base.specs.Talk.{Talk}
 use Rattle.ep_base.specs.TraceLine.{Traced}
 use Rattle.law_turns.specs.Order.{Order, next_turn, first_order}
-use Rattle.lane_replay.specs.LaneText.{Waiting, Piece, opens, heard_piece}
+use Rattle.lane_replay.specs.LaneText.{Waiting, opens, heard_piece}
 
 -- The lanes that wait for an exchange, the order of the exchanges to come, the trace, and what was written (this project's own).
 pub record LaneReplay : Type 0 where

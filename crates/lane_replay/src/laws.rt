@@ -1,4 +1,5 @@
 //! Laws of replays of several lanes, each the contract of a function that does nothing.
+ghost use Rattle.lane_replay.specs.OwnTrace.{OwnTraceMatches};
 ghost use Rattle.lane_replay.specs.Stopping.{OneEnd, ReplaysStay, ReplaysStop, TextsGrow};
 
 /// A replay has stopped after one exchange more than its trace has lines.
@@ -19,4 +20,10 @@ pub fn one_end()
 /// What a replay wrote is the beginning of what it has written after more exchanges.
 pub fn texts_grow()
     ensures { TextsGrow }
+{}
+
+/// The trace of a run that is over is matched by the replay of its lanes, which writes the events of the run without its log
+/// lines. No probe alters a hearing of the run, and the order of its exchanges is any.
+pub fn own_trace_matches()
+    ensures { OwnTraceMatches }
 {}

@@ -9,5 +9,8 @@ mod run;
 mod turning;
 
 pub use ending::ReplayEnd;
-pub use laws::{one_end, replays_stay, replays_stop, texts_grow};
+pub use laws::{one_end, own_trace_matches, replays_stay, replays_stop, texts_grow};
 pub use run::replay_lanes;
+
+#[cfg(test)]
+mod tests;

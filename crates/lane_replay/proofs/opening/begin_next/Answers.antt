@@ -1,4 +1,4 @@
-use Rattle.std.proofs.Common.{arith, ◌≡◌, ◌∙◌, sym, subst, Bool, false}
+use Rattle.std.proofs.Common.{arith, ◌∙◌, sym, subst, Bool, false}
 use Rattle.ep_lanes.specs.Lanes.{lane_of}
 use Rattle.lane_report.specs.Shows.{held_of}
 use Rattle.lane_report.proofs.Appending.{whole_next, part_next, part_front}

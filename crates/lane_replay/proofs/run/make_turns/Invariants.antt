@@ -1,4 +1,4 @@
-use Rattle.std.proofs.Common.{◌≡◌, ◌≤◌, List, ℕ, length, Option}
+use Rattle.std.proofs.Common.{◌≡◌, ◌≤◌, List, ℕ, Option}
 use Rattle.std.specs.Prelude.{is_some}
 use Rattle.trace_io.specs.Replays.{replaying_of}
 use Rattle.lane_report.specs.Shows.{held_of}

@@ -1,4 +1,3 @@
-use Rattle.std.proofs.Common.{◌≡◌}
 use Rattle.ep_lanes.specs.Lanes.{lane_of}
 use Rattle.lane_report.specs.Shows.{held_of}
 use Rattle.lane_report.proofs.Closing.{on_err_weaker}

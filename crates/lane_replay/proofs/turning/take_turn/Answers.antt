@@ -1,4 +1,4 @@
-use Rattle.std.proofs.Common.{arith, ◌≡◌, ◌-◌, ◌∙◌, refl, slice_index_or, slice_set}
+use Rattle.std.proofs.Common.{arith, ◌-◌, ◌∙◌, refl, slice_index_or, slice_set}
 use Rattle.std.proofs.lemmas.Result.{IfOk-weaker}
 use Rattle.trace_io.specs.Replays.{replaying_of}
 use Rattle.lane_report.specs.Shows.{held_of}

@@ -1,9 +1,8 @@
-use Rattle.std.proofs.Common.{◌≡◌}
 use Rattle.ep_lanes.specs.Lanes.{lane_of}
 use Rattle.session_phases.specs.Told.{told_by}
 use Rattle.trace_io.specs.Replays.{replaying_of}
 use Rattle.lane_report.specs.Shows.{held_of}
-use Rattle.lane_replay.proofs.Hearing.{is_after, then_standing, turn_heard, turn_part}
+use Rattle.lane_replay.proofs.Hearing.{is_after, turn_heard, turn_part}
 use Rattle.lane_replay.proofs.turning.turn_lane.Goals as goal
 
 pub returns-in-Ok-go_on-clause-ok : goal.returns-in-Ok-go_on-clause-ok
