@@ -1,5 +1,6 @@
 pub mod Answering
 pub mod Beginning
+pub mod Differing
 pub mod Finishing
 pub mod Going
 pub mod Hearing

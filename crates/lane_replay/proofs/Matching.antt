@@ -1,10 +1,11 @@
 -- A run and the replay of its own trace, exchange by exchange.
-use Rattle.std.proofs.Common.{◌≡◌, ⊎_elim, ℕ, zero, suc, ◌+◌, ◌<◌, ◌≤◌, ◌==◌, Bool, true, false, List, [], ◌∷◌, ◌++◌, length, length-drop, map, drop, get_or, ◌-◌, refl, sym, ap, subst, ◌∙◌, append_assoc, arith, Option, Some, None, is_some}
+use Rattle.std.proofs.Common.{◌≡◌, ⊎_elim, ℕ, zero, suc, ◌+◌, ◌==◌, Bool, true, false, List, [], ◌∷◌, ◌++◌, length, length-drop, map, drop, get_or, ◌-◌, refl, sym, ap, subst, ◌∙◌, append_assoc, arith, Option, Some, None, is_some}
 use Rattle.std.specs.Prelude.{◌&&◌, if◌then◌else◌, slice_get}
 use Rattle.std.proofs.lemmas.Bool.Decides.{eqb_tells, leb_tells}
 use Rattle.std.proofs.lemmas.List.{append-nil, drop_all, drop_more, length-map}
 use Rattle.std.proofs.lemmas.Option.{slice_get-get_or, slice_get_past}
 use Rattle.ep_base.specs.Apdu.{same_bytes}
+use Rattle.ep_base.specs.Configuration.{Settings}
 use Rattle.ep_base.specs.Hearing.{Asked, Hearing, same_wave}
 use Rattle.ep_base.specs.Lanes.{times}
 use Rattle.ep_base.specs.ReplayRun.{Mismatch, Replaying, at_lane, compared, ends_unless, failing, finishes, left_over, same_shown, sends_unless, took}
@@ -21,8 +22,11 @@ use Rattle.law_turns.specs.Order.{Order, next_turn}
 use Rattle.law_turns.specs.WholeRun.{Run, is_live, open_probe, opened_run, run_after, run_step, takes_turn}
 use Rattle.law_turns.specs.WholeRun as whole
 use Rattle.ep_lanes.proofs.Ordering.{same_turn}
+use Rattle.scenario.specs.Scene.{Work}
+use Rattle.lane_report.specs.Works.{all_jobs, job_of, talk_in}
 use Rattle.lane_replay.specs.LaneText.{Piece, Waiting, heard_piece, opens, opens_by, goes_on}
-use Rattle.lane_replay.specs.OwnTrace.{OwnTraceMatches, line_at, line_by, line_in, lines_of, said_after, said_at, said_by, said_first, said_in, said_of, said_on, said_opening, talks_in}
+use Rattle.lane_replay.specs.OwnTrace.{OwnTraceMatches, SameTalks, line_at, line_by, line_in, lines_of, said_after, said_at, said_by, said_first, said_in, said_of, said_on, said_opening, talks_in}
+use Rattle.lane_replay.specs.Shows.{talks_of}
 use Rattle.lane_replay.specs.WholeReplay.{LaneReplay, answered, first_mismatch, hears, opened_replay, opening_lanes, opening_text, replay_after, replay_step, turn_in, turn_unless}
 use Rattle.lane_replay.specs.WholeReplay as replays
 
@@ -41,7 +45,7 @@ wave_self ABare = refl
 wave_self A = refl
 wave_self B = refl
 
-shown_self : (s : Shown) → same_shown s s ≡ true
+pub shown_self : (s : Shown) → same_shown s s ≡ true
 shown_self s =
     ap (λ (b : Bool). b && same_wave s.wave s.wave && same_bytes s.frame s.frame && (s.wait == s.wait)) (eq_self s.lane)
     ∙ (ap (λ (b : Bool). b && same_bytes s.frame s.frame && (s.wait == s.wait)) (wave_self s.wave)
@@ -280,3 +284,14 @@ own_trace_law traced fsdi turns lanes n over =
       mismatch_is = sym (ap (λ (b : Bool × Replaying). b.1.failure) done ∙ end.well);
       text_is = sym end.said;
     }
+
+-- ---- the lanes of a report
+
+talks_same : (settings : Settings) (ws : List Work) → talks (map (job_of settings) ws) ≡ map (talk_in settings) ws
+talks_same settings [] = refl
+talks_same settings (w ∷ ws) = ap (λ l. talk_in settings w ∷ l) (talks_same settings ws)
+
+pub same_talks_law : SameTalks
+same_talks_law settings [] = refl
+same_talks_law settings (v ∷ vs) =
+    ap (λ l. l ∷ talks_in (all_jobs settings vs)) (talks_same settings v.left) ∙ ap (λ l. talks_of settings v ∷ l) (same_talks_law settings vs)

@@ -1,5 +1,6 @@
 -- The trace of a run, and what the run says beside it: a replay of the one is matched and writes the other (this project's own).
-use Rattle.std.specs.Prelude.{ℕ, zero, suc, ◌+◌, Bool, List, [], ◌∷◌, ◌++◌, length, map, Option, Some, None}
+use Rattle.std.specs.Prelude.{◌≡◌, ℕ, zero, suc, ◌+◌, Bool, List, [], ◌∷◌, ◌++◌, length, map, Option, Some, None}
+use Rattle.ep_base.specs.Configuration.{Settings}
 use Rattle.ep_base.specs.Hearing.{Asked}
 use Rattle.ep_base.specs.Talk.{Talk}
 use Rattle.ep_base.specs.TraceLine.{Traced}
@@ -10,6 +11,8 @@ use Rattle.law_turns.specs.Ending.{HasEnded}
 use Rattle.law_turns.specs.LaneText.{Going, Job, added, heard_lane, traced_as}
 use Rattle.law_turns.specs.Order.{Order, next_turn}
 use Rattle.law_turns.specs.WholeRun.{Run, is_live, open_probe, opened_run, run_after, run_step}
+use Rattle.lane_report.specs.Works.{LaneWork, all_jobs}
+use Rattle.lane_replay.specs.Shows.{all_talks}
 use Rattle.lane_replay.specs.WholeReplay.{ReplayEnds}
 
 -- The exchange of a run's lane as a trace line says it, by what is asked next, if anything is (this project's own).
@@ -88,3 +91,7 @@ OwnTraceMatches =
     (traced : Bool) (fsdi : ℕ) (turns : List ℕ) (lanes : List (List Job)) (n : ℕ) → HasEnded (length lanes) (run_after traced open_probe fsdi turns tt lanes n) →
     ReplayEnds fsdi turns (lines_of traced fsdi (length lanes) n (opened_run fsdi turns tt lanes)) (talks_in lanes) None
     (said_first fsdi 1 lanes ++ said_of traced fsdi (length lanes) n (opened_run fsdi turns tt lanes))
+
+-- The lanes of a report and those of a replay say and ask the same (this project's own).
+abbrev pub SameTalks : Type 0
+SameTalks = (settings : Settings) (works : List LaneWork) → talks_in (all_jobs settings works) ≡ all_talks settings works

@@ -1,5 +1,5 @@
 -- A replay of lanes stops, once (this project's own).
-use Rattle.std.specs.Prelude.{◌≡◌, ℕ, ◌+◌, ◌≤◌, List, ◌++◌, length, Option}
+use Rattle.std.specs.Prelude.{◌≡◌, ◌≢◌, ℕ, ◌+◌, ◌≤◌, List, ◌++◌, length, Option, Some}
 use Rattle.ep_base.specs.ReplayRun.{Mismatch}
 use Rattle.ep_base.specs.Talk.{Talk}
 use Rattle.ep_base.specs.TraceLine.{Traced}
@@ -29,3 +29,9 @@ abbrev pub TextsGrow : Type 0
 TextsGrow =
     (fsdi : ℕ) (turns : List ℕ) (lines : List Traced) (lanes : List (List Talk)) (m k : ℕ) →
     (rest : List ℕ) × ((replay_after fsdi turns lines lanes (m + k)).text ≡ (replay_after fsdi turns lines lanes m).text ++ rest)
+
+-- What its first mismatch tells as wanted and as sent isn't the same (this project's own).
+abbrev pub MismatchesDiffer : Type 0
+MismatchesDiffer =
+    (fsdi : ℕ) (turns : List ℕ) (lines : List Traced) (lanes : List (List Talk)) (m : Mismatch) (text : List ℕ) →
+    ReplayEnds fsdi turns lines lanes (Some m) text → m.wanted ≢ m.got

@@ -9,7 +9,9 @@ mod run;
 mod turning;
 
 pub use ending::ReplayEnd;
-pub use laws::{one_end, own_trace_matches, replays_stay, replays_stop, texts_grow};
+pub use laws::{
+    mismatches_differ, one_end, own_trace_matches, replays_stay, replays_stop, texts_grow,
+};
 pub use run::replay_lanes;
 
 #[cfg(test)]

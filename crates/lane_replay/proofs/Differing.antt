@@ -1,0 +1,77 @@
+-- A mismatch tells two things that differ.
+use Rattle.std.proofs.Common.{◌≡◌, ◌≢◌, ℕ, zero, suc, Bool, true, false, length, refl, sym, subst, ◌∙◌, Option, Some, None}
+use Rattle.std.specs.Prelude.{if◌then◌else◌}
+use Rattle.ep_base.specs.Hearing.{Asked, Hearing}
+use Rattle.ep_base.specs.Lanes.{times}
+use Rattle.ep_base.specs.ReplayRun.{Mismatch, Replaying, at_lane, compared, ends_unless, failing, left_over, next_line, same_shown, sends_unless, took}
+use Rattle.ep_base.specs.TraceLine.{Shown, Traced}
+use Rattle.lane_report.proofs.Closing.{some_same}
+use Rattle.lane_replay.specs.Stopping.{MismatchesDiffer}
+use Rattle.lane_replay.specs.WholeReplay.{LaneReplay, answered, opened_replay, replay_after, replay_step}
+use Rattle.lane_replay.proofs.Matching.{shown_self}
+use Rattle.lane_replay.proofs.Stepping.{by_step}
+
+-- a failure tells two things that differ
+abbrev Apart : Option Mismatch → Type 0
+Apart None = Unit {0}
+Apart (Some m) = m.wanted ≢ m.got
+
+-- so does that of a trace after an answer
+abbrev ApartAfter : Option Hearing × Replaying → Type 0
+ApartAfter a = Apart a.1.failure
+
+none_some : (s : Shown) → None ≢ Some s
+none_some s e = let clash : ⊥ = cc in clash
+
+some_none : (s : Shown) → Some s ≢ None
+some_none s e = let clash : ⊥ = cc in clash
+
+other_shown : (a b : Shown) → same_shown a b ≡ false → Some a ≢ Some b
+other_shown a b differs e =
+    let same : same_shown a b ≡ true = subst (λ (x : Shown). same_shown a x ≡ true) (some_same a b e) (shown_self a) in
+    let clash : true ≡ false = sym same ∙ differs in
+    absurd (let never : ⊥ = cc in never)
+
+module _ (got : Shown) (s : Replaying) (apart : Apart s.failure) where
+  by_line : (l : Option Traced) → ApartAfter (compared got l s)
+  by_line None = none_some got
+  by_line (Some line) =
+      elim (same_shown line.sent got) as (λ (b : Bool). same_shown line.sent got ≡ b
+      → ApartAfter (if b then (Some line.heard, took s) else (None, failing (Some line.sent) (Some got) s))) [
+        | true ↦ λ e. apart
+        | false ↦ λ e. other_shown line.sent got e
+      ] refl
+
+  by_failure : (f : Option Mismatch) → ApartAfter (sends_unless f got s)
+  by_failure None = by_line (next_line s)
+  by_failure (Some m) = apart
+
+module _ (s : Replaying) (apart : Apart s.failure) where
+  by_left : (l : Option Traced) → Apart (left_over l s).1.failure
+  by_left None = apart
+  by_left (Some line) = some_none line.sent
+
+  by_end : (f : Option Mismatch) → Apart (ends_unless f s).1.failure
+  by_end None = by_left (next_line s)
+  by_end (Some m) = apart
+
+answer_apart : (lane : ℕ) (ask : Asked) (s : Replaying) (a : Option Hearing × Replaying) → answered lane ask s ≡ a → Apart s.failure → ApartAfter a
+answer_apart lane ask s a e apart =
+    subst (λ (x : Option Hearing × Replaying). ApartAfter x) e
+    (by_failure (record { lane = lane; wave = ask.wave; frame = ask.bytes; wait = ask.wait }) (at_lane lane s) apart s.failure)
+
+step_apart : (fsdi count : ℕ) (r : LaneReplay) → Apart r.trace.failure → Apart (replay_step fsdi count r).trace.failure
+step_apart fsdi count r apart =
+    by_step fsdi count r (λ t q. Apart q.trace.failure) (λ none. apart)
+    (λ n o w t e d x. answer_apart n w.asks r.trace (None, t) x apart)
+    (λ n o w h t e d x. answer_apart n w.asks r.trace (Some h, t) x apart)
+
+steps_apart : (fsdi count n : ℕ) (r : LaneReplay) → Apart r.trace.failure → Apart (times (replay_step fsdi count) n r).trace.failure
+steps_apart fsdi count zero r apart = apart
+steps_apart fsdi count (suc n) r apart = steps_apart fsdi count n (replay_step fsdi count r) (step_apart fsdi count r apart)
+
+pub mismatches_differ_law : MismatchesDiffer
+mismatches_differ_law fsdi turns lines lanes m text ends =
+    let last = replay_after fsdi turns lines lanes ends.exchanges in
+    let apart = steps_apart fsdi (length lanes) ends.exchanges (opened_replay fsdi turns lines lanes) tt in
+    subst (λ (f : Option Mismatch). Apart f) (sym ends.mismatch_is) (by_end last.trace apart last.trace.failure)
