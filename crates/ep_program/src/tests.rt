@@ -8,6 +8,7 @@ mod limits;
 mod loads;
 mod radio;
 mod refusals;
+mod replays;
 mod selection;
 mod turns;
 
