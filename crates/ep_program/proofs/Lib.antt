@@ -2,4 +2,5 @@ pub mod Loading
 pub mod Numbers
 pub mod Promising
 pub mod Ready
+pub mod Replaying
 pub mod Thirds

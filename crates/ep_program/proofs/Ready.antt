@@ -23,10 +23,11 @@ use Rattle.scenario.specs.Accepted.{IsLawful, IsLane, IsAccepted}
 use Rattle.scenario.specs.Plan.{Transaction, Plan}
 use Rattle.scenario.specs.Scene.{Work, Scene, room_of, work_of, scene_of}
 use Rattle.ep_program.specs.Headline.{jobs_in, IsFresh, IsReady}
+use Rattle.ep_program.specs.Input.{Gives, Opens}
 use Rattle.ep_program.specs.Promise.{HasPromise}
-use Rattle.ep_program.specs.Serve.{Outside, IsTextOf, Writes, WritesPart, Gives, Opens, Reports, Runs}
+use Rattle.ep_program.specs.Serve.{Outside, IsTextOf, Writes, WritesPart, Reports, Runs}
 use Rattle.ep_program.specs.declared.status.Status.{Status}
-use Rattle.ep_program.specs.declared.status.Status.TheVariants.{Done, ReadFault, WriteFault, NoMemory, Usage, TooLong, NotToml, BadDocument}
+use Rattle.ep_program.specs.declared.status.Status.TheVariants.{Done, ReadFault, WriteFault, NoMemory, Usage, TooLong, NotToml, BadDocument, Mismatch}
 use Rattle.ep_program.proofs.Promising.{MayBegin, may_begin, promised}
 
 -- ---- the transactions of an accepted document may begin
@@ -193,6 +194,7 @@ module _ {P : Type 0} (answers : ProbeAnswers P) (traced : Bool) (input : Option
   of_plan p gives TooLong r = absurd r
   of_plan p gives NotToml r = absurd r
   of_plan p gives (BadDocument f) r = absurd r
+  of_plan p gives (Mismatch m) r = absurd r
 
   -- A scene that was read and run is reported.
   pub reported : (s : Scene) → Opens input s → (status : Status) → Runs answers traced s before after status

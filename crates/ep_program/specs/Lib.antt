@@ -1,6 +1,8 @@
 pub mod Headline
+pub mod Input
 pub mod Load
 pub mod Promise
+pub mod Replay
 pub mod Serve
 pub mod Status
 pub mod Words

@@ -9,7 +9,7 @@ use Rattle.load_run.specs.Counts.{Counts, IsTotal, jobs_in}
 use Rattle.load_run.specs.Summary.{summary_line_of}
 use Rattle.scenario.specs.Scene.{scene_of}
 use Rattle.ep_program.specs.declared.status.Status.{Status}
-use Rattle.ep_program.specs.declared.status.Status.TheVariants.{Done, ReadFault, WriteFault, NoMemory, Usage, TooLong, NotToml, BadDocument}
+use Rattle.ep_program.specs.declared.status.Status.TheVariants.{Done, ReadFault, WriteFault, NoMemory, Usage, TooLong, NotToml, BadDocument, Mismatch}
 
 -- The transactions of the load of this seed with so many of them, those of each lane after those of the lane before (this project's own).
 abbrev pub load_jobs : (seed count : ℕ) → List Job
@@ -38,3 +38,4 @@ Loads seed count before after Usage = ⊥
 Loads seed count before after TooLong = ⊥
 Loads seed count before after NotToml = ⊥
 Loads seed count before after (BadDocument f) = ⊥
+Loads seed count before after (Mismatch m) = ⊥

@@ -1,42 +1,23 @@
 -- What the program answers, what it wrote then, and in which state it left the probe (this project's own).
-use Rattle.std.specs.Prelude.{◌≡◌, ℕ, ◌<◌, Bool, true, false, List, Some, None, Ok, Err, IfSome, length, ⊤}
+use Rattle.std.specs.Prelude.{◌≡◌, ℕ, Bool, true, false, List, Some, None}
 use Rattle.std.specs.declared.option.Option.{Option}
 use Rattle.std.specs.Io.KnownBytes.{Appends, Keeps}
-use Rattle.toml.specs.Data.{Members}
 use Rattle.ep_base.specs.Io.{AppendsPrefix}
 use Rattle.law_turns.specs.WholeRun.{ProbeSteps}
 use Rattle.ep_lanes.specs.Probing.{ProbeAnswers}
 use Rattle.lane_report.specs.Reports.{HasRun}
 use Rattle.lane_report.specs.Shows.{Tells}
-use Rattle.scenario.specs.Document.{IsDocument, Says}
-use Rattle.scenario.specs.Plan.{Plan, plan}
+use Rattle.scenario.specs.Plan.{Plan}
 use Rattle.scenario.specs.Scene.{Scene, scene_of}
 use Rattle.ep_program.specs.Headline.{jobs_in}
+use Rattle.ep_program.specs.Input.{Gives, Refuses}
 use Rattle.ep_program.specs.Load.{Loads}
 use Rattle.ep_program.specs.Promise.{GivesOn, HasPromise}
+use Rattle.ep_program.specs.Replay.{Replays}
 use Rattle.ep_program.specs.declared.status.Status.{Status}
-use Rattle.ep_program.specs.declared.status.Status.TheVariants.{Done, ReadFault, WriteFault, NoMemory, Usage, TooLong, NotToml, BadDocument}
+use Rattle.ep_program.specs.declared.status.Status.TheVariants.{Done, ReadFault, WriteFault, NoMemory, Usage, TooLong, NotToml, BadDocument, Mismatch}
 use Rattle.ep_program.specs.declared.form.Form.{Form}
-use Rattle.ep_program.specs.declared.form.Form.TheVariants.{Run, RunTrace, Load}
-
--- The input, where its bytes are told, is a document with this plan (this project's own).
-abbrev pub Gives : Option (List ℕ) → Plan → Type 0
-Gives input p = (members : Members) × (plan members ≡ Ok p) × IfSome input (λ bytes. IsDocument bytes members)
-
--- The input, where its bytes are told, is an accepted document that says this scene (this project's own).
-abbrev pub Opens : Option (List ℕ) → Scene → Type 0
-Opens input s = (members : Members) × Says members s × IfSome input (λ bytes. IsDocument bytes members)
-
--- The input gives no plan, for this reason (this project's own).
-abbrev pub Refuses : Option (List ℕ) → Status → Type 0
-Refuses input Done = ⊥
-Refuses input ReadFault = ⊤
-Refuses input WriteFault = ⊥
-Refuses input NoMemory = ⊤
-Refuses input Usage = ⊥
-Refuses input TooLong = IfSome input (λ bytes. 1048576 < length bytes)
-Refuses input NotToml = IfSome input (λ bytes. (members : Members) → IsDocument bytes members → ⊥)
-Refuses input (BadDocument f) = (members : Members) × (plan members ≡ Err f) × IfSome input (λ bytes. IsDocument bytes members)
+use Rattle.ep_program.specs.declared.form.Form.TheVariants.{Run, RunTrace, Replay, Load}
 
 -- The bytes written, where they are told, and the state of the probe (this project's own).
 pub record Outside (P : Type 0) : Type 0 where
@@ -76,13 +57,15 @@ Reports answers traced input before after NoMemory = Refuses input NoMemory × S
 Reports answers traced input before after TooLong = Refuses input TooLong × Stays before after
 Reports answers traced input before after NotToml = Refuses input NotToml × Stays before after
 Reports answers traced input before after (BadDocument f) = Refuses input (BadDocument f) × Stays before after
+Reports answers traced input before after (Mismatch m) = ⊥
 
--- What the words ask for: a document's report, without the trace or with it, or the summary line of a load, which leaves the probe as it was.
--- `Usage` comes exactly for words in no form, with nothing written and the probe as it was (this project's own).
+-- What the words ask for: a document's report, without the trace or with it, its report against its trace, or the summary line of a load; the last two
+-- leave the probe as it was. `Usage` comes exactly for words in no form, with nothing written and the probe as it was (this project's own).
 abbrev pub Serves : {P : Type 0} → ProbeAnswers P → Option Form → Option (List ℕ) → (before after : Outside P) → Status → Type 0
 Serves answers None input before after status = (status ≡ Usage) × Stays before after
 Serves answers (Some Run) input before after status = Reports answers false input before after status
 Serves answers (Some RunTrace) input before after status = Reports answers true input before after status
+Serves answers (Some Replay) input before after status = Replays input before.written after.written status × (after.probe ≡ before.probe)
 Serves answers (Some (Load seed count)) input before after status = Loads seed count before.written after.written status × (after.probe ≡ before.probe)
 
 -- What running a scene answers, what it writes, and in which state it leaves the probe (this project's own).
@@ -95,3 +78,4 @@ Runs answers traced s before after Usage = ⊥
 Runs answers traced s before after TooLong = ⊥
 Runs answers traced s before after NotToml = ⊥
 Runs answers traced s before after (BadDocument f) = ⊥
+Runs answers traced s before after (Mismatch m) = ⊥

@@ -2,8 +2,9 @@
 use Rattle.std.specs.Prelude.{ℕ, List, []}
 use Rattle.ep_base.specs.FaultText.{read_fault, write_fault, no_memory, usage, too_long, not_toml}
 use Rattle.report_text.specs.FaultWords.{document_fault}
+use Rattle.trace_io.specs.MismatchText.{mismatch_text}
 use Rattle.ep_program.specs.declared.status.Status.{Status}
-use Rattle.ep_program.specs.declared.status.Status.TheVariants.{Done, ReadFault, WriteFault, NoMemory, Usage, TooLong, NotToml, BadDocument}
+use Rattle.ep_program.specs.declared.status.Status.TheVariants.{Done, ReadFault, WriteFault, NoMemory, Usage, TooLong, NotToml, BadDocument, Mismatch}
 
 -- The exit status of each (this project's own).
 abbrev pub number_of : Status → ℕ
@@ -15,6 +16,7 @@ number_of Usage = 4
 number_of TooLong = 5
 number_of NotToml = 6
 number_of (BadDocument f) = 7
+number_of (Mismatch m) = 8
 
 -- The text of a status; Done has none (this project's own).
 abbrev pub fault_text_of : Status → List ℕ
@@ -26,3 +28,4 @@ fault_text_of Usage = usage
 fault_text_of TooLong = too_long
 fault_text_of NotToml = not_toml
 fault_text_of (BadDocument f) = document_fault f
+fault_text_of (Mismatch m) = mismatch_text m

@@ -7,7 +7,7 @@ use Rattle.ep_base.specs.Apdu.{same_bytes}
 use Rattle.ep_base.specs.TraceLine.{◌>>=◌}
 use Rattle.doc_table.specs.Read.{is_within}
 use Rattle.ep_program.specs.declared.form.Form.{Form}
-use Rattle.ep_program.specs.declared.form.Form.TheVariants.{Run, RunTrace, Load}
+use Rattle.ep_program.specs.declared.form.Form.TheVariants.{Run, RunTrace, Replay, Load}
 
 -- Whether a word is this one (this project's own).
 abbrev pub is_word : String Global → List ℕ → Bool
@@ -30,10 +30,10 @@ load_of seed count = do
   n ← count_spelled count
   Some (Load s n)
 
--- The form of words: run, run trace, or load with a seed and a count; no other is built (this project's own).
+-- The form of words: run, run trace, replay, or load with a seed and a count (this project's own).
 abbrev pub form_of : List (String Global) → Option Form
 form_of [] = None
-form_of (w ∷ []) = if is_word w (codes "run") then Some Run else None
+form_of (w ∷ []) = if is_word w (codes "run") then Some Run else (if is_word w (codes "replay") then Some Replay else None)
 form_of (w ∷ v ∷ []) = if is_word w (codes "run") && is_word v (codes "trace") then Some RunTrace else None
 form_of (w ∷ v ∷ u ∷ []) = if is_word w (codes "load") then load_of (string_bytes v) (string_bytes u) else None
 form_of (w ∷ v ∷ u ∷ t ∷ ws) = None
@@ -42,6 +42,7 @@ form_of (w ∷ v ∷ u ∷ t ∷ ws) = None
 abbrev pub IsAllowed : Form → Type 0
 IsAllowed Run = ⊤
 IsAllowed RunTrace = ⊤
+IsAllowed Replay = ⊤
 IsAllowed (Load seed count) = (1 ≤ count) × (count ≤ 400)
 
 -- Whether the input is read (this project's own).
@@ -49,4 +50,5 @@ abbrev pub reads_input : Option Form → Bool
 reads_input None = false
 reads_input (Some Run) = true
 reads_input (Some RunTrace) = true
+reads_input (Some Replay) = true
 reads_input (Some (Load seed count)) = false

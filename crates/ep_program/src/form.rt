@@ -6,13 +6,15 @@ ghost use Rattle.ep_program.specs.Words.{form_of, load_of, count_spelled, number
 // The most transactions of a load.
 const MOST: u32 = 400;
 
-/// The forms of words that are built.
+/// The forms of words.
 #[derive(Clone, Copy, Debug, PartialEq, Eq)]
 pub enum Form {
     /// `run`: the report of a document.
     Run,
     /// `run trace`: the report with each exchange before the events that it adds.
     RunTrace,
+    /// `replay`: the report of a document against its trace.
+    Replay,
     /// `load SEED COUNT`: the summary line of a generated load.
     Load {
         /// The seed, of at most nine decimal digits.
@@ -22,7 +24,7 @@ pub enum Form {
     },
 }
 
-/// The form in which the words are. `None` exactly where they are in none that is built.
+/// The form in which the words are. `None` exactly where they are in none.
 pub fn form_of(words: &[String]) -> Option<Form>
     ensures form { result ≡ form_of words.now }
     ensures allowed { IfSome result IsAllowed }
@@ -31,6 +33,8 @@ pub fn form_of(words: &[String]) -> Option<Form>
         [run] => {
             if run.as_str() == "run" {
                 Some(Form::Run)
+            } else if run.as_str() == "replay" {
+                Some(Form::Replay)
             } else {
                 None
             }

@@ -3,7 +3,9 @@
 #![tactic(auto)]
 
 mod form;
+mod input;
 mod load;
+mod replay;
 mod serve;
 mod status;
 #[cfg(test)]

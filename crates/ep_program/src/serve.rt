@@ -1,47 +1,27 @@
 //! The top call.
-ghost use Rattle.std.specs.Prelude.{◌≡◌, true, false, IfOk, IfErr, IsErrOf, OnOk};
+ghost use Rattle.std.specs.Prelude.{◌≡◌, true, false};
 ghost use Rattle.std.specs.Io.KnownBytes.{IsAtEnd};
 ghost use Rattle.ep_base.specs.Causes.{HasCause};
 ghost use Rattle.ep_program.specs.Headline.{IsReady};
-ghost use Rattle.ep_program.specs.Serve.{Opens, Refuses, Reports, Runs, Serves};
+ghost use Rattle.ep_program.specs.Serve.{Reports, Runs, Serves};
 ghost use Rattle.ep_program.specs.Words.{form_of, reads_input};
 
 use crate::form::{Form, form_of};
+use crate::input::read;
 use crate::load::load;
+use crate::replay::replay_document;
 use crate::status::Status;
-use ep_base::{NoMemory, ReadEnd, Sink, Source, read_all};
+use ep_base::{NoMemory, Sink, Source};
 use ep_lanes::{Lanes, Probe};
 use lane_report::{report_lanes, works_of};
-use scenario::{DocEnd, Scenario};
+use scenario::Scenario;
 use std::alloc::Global;
-
-/// The most bytes of an input.
-const LIMIT: usize = 1_048_576;
-
-// All that comes in, and what it says.
-fn read<S: Source>(alloc: Global, input: &mut S) -> Result<Scenario, Status>
-    ensures ok { IfOk result (Opens (S.left input.old)) }
-    ensures err { IfErr result (Refuses (S.left input.old)) }
-    ensures whole { OnOk result (IsAtEnd (S.left input.new)) }
-    ensures cause { HasCause (S.faults input.old) (S.faults input.new) (IsErrOf result Status.ReadFault) }
-{
-    match read_all(alloc, input, LIMIT) {
-        Ok(bytes) => match Scenario::of_bytes(alloc, &bytes) {
-            Ok(scenario) => Ok(scenario),
-            Err(DocEnd::NotToml) => Err(Status::NotToml),
-            Err(DocEnd::Fault(fault)) => Err(Status::BadDocument(fault)),
-            Err(DocEnd::NoMemory) => Err(Status::NoMemory),
-        },
-        Err(ReadEnd::ReadFault) => Err(Status::ReadFault),
-        Err(ReadEnd::TooLong) => Err(Status::TooLong),
-        Err(ReadEnd::NoMemory) => Err(Status::NoMemory),
-    }
-}
 
 /// Does what the words say: `run` reads a document from the input, runs the transactions of its lanes over the radio, each
 /// with the field of its own cards, and writes their report; `run trace` writes each exchange with the radio as well, before
-/// the lines of the events that it adds; `load` with a seed and a count runs the transactions of a generated load and writes
-/// their summary line. All memory is taken before the first line is written.
+/// the lines of the events that it adds; `replay` runs the lanes against the document's trace in place of their cards, and
+/// writes their events; `load` with a seed and a count runs the transactions of a generated load and writes their summary
+/// line. All memory is taken before the first line is written.
 ///
 /// # Reports
 ///
@@ -68,6 +48,13 @@ fn read<S: Source>(alloc: Global, input: &mut S) -> Result<Scenario, Status>
 ///
 /// A sink that fails leaves a first part of that text, with `WriteFault`.
 ///
+/// # Replays
+///
+/// The lanes take turns as in a report. Each exchange is compared with the next line of the trace: lane, wave, frame and
+/// waiting number. Where they are the same, the lane hears what the line says. `Done` comes exactly where each exchange has
+/// its line and each line its exchange, and `Mismatch` with the first place where that isn't so; both with all that was
+/// written until then, and `WriteFault` with a first part of it. The probe isn't asked.
+///
 /// # Loads
 ///
 /// The line has the numbers of the load's transactions together, each over the field of its own cards, and there is one such
@@ -78,7 +65,8 @@ fn read<S: Source>(alloc: Global, input: &mut S) -> Result<Scenario, Status>
 ///
 /// Each status has its reason: `Usage` the words, `BadDocument` the document's first fault, `NotToml` and `TooLong` the
 /// input; `ReadFault` and `WriteFault` come only where a count of faults rose, and `NoMemory` may come for every document
-/// and every load. But for `Done` and `WriteFault` nothing is written, and the probe is as it was. A load answers `Done`,
+/// and every load. A replay without a trace is a `BadDocument`, after all other faults. But for `Done`, `WriteFault` and
+/// `Mismatch` nothing is written, and the probe is as it was. A load answers `Done`,
 /// `WriteFault` or `NoMemory` alone. With `Usage` the input is as before too.
 pub fn serve<S: Source, K: Sink, P: Probe>(
     alloc: Global,
@@ -99,6 +87,7 @@ pub fn serve<S: Source, K: Sink, P: Probe>(
     match form_of(words) {
         Some(Form::Run) => report(alloc, false, input, output, probe),
         Some(Form::RunTrace) => report(alloc, true, input, output, probe),
+        Some(Form::Replay) => replay_document(alloc, input, output),
         Some(Form::Load { seed, count }) => load(alloc, seed, count, output),
         None => Status::Usage,
     }

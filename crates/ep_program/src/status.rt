@@ -5,6 +5,7 @@ ghost use Rattle.ep_program.specs.Status.{number_of, fault_text_of};
 use ep_base::Line;
 use report_text::document_fault;
 use scenario::DocFault;
+use trace_io::{Mismatch, mismatch_text};
 
 /// How the program ends.
 #[derive(Debug, Drop)]
@@ -25,6 +26,8 @@ pub enum Status {
     NotToml,
     /// The document has a fault; this is the first one.
     BadDocument(DocFault),
+    /// The lanes and the document's trace differ; this is where they differ first.
+    Mismatch(Mismatch),
 }
 
 impl Status {
@@ -41,6 +44,7 @@ impl Status {
             Status::TooLong => 5,
             Status::NotToml => 6,
             Status::BadDocument(_) => 7,
+            Status::Mismatch(_) => 8,
         }
     }
 }
@@ -61,5 +65,6 @@ pub fn fault_text(status: &Status, out: &mut Line)
         Status::TooLong => out.push_str("ep_program: input longer than 1048576 bytes"),
         Status::NotToml => out.push_str("ep_program: not a TOML document"),
         Status::BadDocument(fault) => document_fault(fault, out),
+        Status::Mismatch(mismatch) => mismatch_text(mismatch, out),
     }
 }

@@ -8,6 +8,7 @@ mod limits;
 mod loads;
 mod radio;
 mod refusals;
+mod replays;
 mod selection;
 mod turns;
 
@@ -197,7 +198,7 @@ fn the_longest_input_and_one_byte_more(rt: HostRuntime) -> Result<(), Fail> {
 #[test]
 fn words_that_are_no_form(rt: HostRuntime) -> Result<(), Fail> {
     let document = purchase(&rt, NAME)?;
-    let forms: [&[&str]; 3] = [&["run", "fast"], &[], &["replay"]];
+    let forms: [&[&str]; 3] = [&["run", "fast"], &[], &["replay", "fast"]];
     for words in forms {
         let left = run(&rt, words, document.as_bytes(), &[], &[])?;
         assert_eq!(rt; left.number, 4);
