@@ -40,8 +40,8 @@ use std::alloc::Global;
 /// - In a transaction that comes to its end the events are those of the Entry Point rules over a perfect channel, for the
 ///   ends that its poll rounds had, and the cards executed exactly the commands of that run, each once and in their order.
 /// - A link fails exactly where an open link makes its third bad exchange of a command since the reader's last toggle, or
-///   since the link was opened, and the transaction ends with it. Then the report has the events before that command and the failed link's end, and the
-///   cards executed the commands before it, each once, and that command at most once.
+///   since the link was opened, and the transaction ends with it. Then the report has the events before that command and
+///   the failed link's end, and the cards executed the commands before it, each once, and that command at most once.
 /// - A card is never found to break the rules of the link, and no device fails.
 /// - Each lane writes what it writes alone, with its own number and without a turn list.
 /// - There is one such text, and no other can be written.
@@ -66,8 +66,8 @@ use std::alloc::Global;
 /// Each status has its reason: `Usage` the words, `BadDocument` the document's first fault, `NotToml` and `TooLong` the
 /// input; `ReadFault` and `WriteFault` come only where a count of faults rose, and `NoMemory` may come for every document
 /// and every load. A replay without a trace is a `BadDocument`, after all other faults. But for `Done`, `WriteFault` and
-/// `Mismatch` nothing is written, and the probe is as it was. A load answers `Done`,
-/// `WriteFault` or `NoMemory` alone. With `Usage` the input is as before too.
+/// `Mismatch` nothing is written, and the probe is as it was. A load answers `Done`, `WriteFault` or `NoMemory` alone. With
+/// `Usage` the input is as before too.
 pub fn serve<S: Source, K: Sink, P: Probe>(
     alloc: Global,
     words: &[String],
