@@ -97,3 +97,16 @@ is_deselect (Some (Wtx p m)) = false
 
 abbrev pub is_halted : Card → Bool
 is_halted card = is_deselect card.last
+
+-- A card that was just activated.
+abbrev pub fresh_card : Card
+fresh_card = record { number = true; last = None; taken = []; left = Parts []; log = [] }
+
+-- The card's own list begins anew with each command.
+abbrev pub unlogged : Card → Card
+unlogged card = record { number = card.number; last = card.last; taken = card.taken; left = card.left; log = [] }
+
+-- The records of what card n executed.
+abbrev pub records : ℕ → List (List ℕ) → List (ℕ × List ℕ)
+records n [] = []
+records n (command ∷ commands) = (n, command) ∷ records n commands

@@ -5,13 +5,12 @@ use Rattle.ep_base.specs.declared.air.Wave.{Wave}
 use Rattle.ep_base.specs.declared.air.CardKind.TheVariants as kinds
 use Rattle.ep_base.specs.Hearing.{Framed, Hearing, Silence, Overlap, Frame, same_wave, CardReply, Mute, Sends, Opens, Passes}
 use Rattle.ep_base.specs.Medium.{ToldMedium}
-use Rattle.ep_base.specs.CardEnd.{is_halted}
+use Rattle.ep_base.specs.CardEnd.{is_halted, fresh_card}
 use Rattle.ep_base.specs.CardAnswer.{Image, deselected}
 use Rattle.ep_base.specs.TypeA.{APlan, AState, Idle, Halted, a_card}
 use Rattle.ep_base.specs.TypeB.{BPlan, BState, BIdle, b_card}
 use Rattle.ep_base.specs.Air.{Leg, Passage, Air, next_fate, later}
 use Rattle.ep_base.specs.Air as legs
-use Rattle.ep_base.specs.BlockField.{fresh_card}
 use Rattle.ep_base.specs.Wire.{Party, Heeded, takes_frame, comes_down, comes_back}
 
 -- A card outside the block protocol: its plan, and where it stands (ISO/IEC 14443-3).

@@ -1,5 +1,5 @@
 -- What the cards of a transaction answer (this project's own).
-use Rattle.std.specs.Prelude.{◌≡◌, ℕ, ◌≤◌, ◌==◌, Bool, true, List, [], ◌∷◌, length, if◌then◌else◌}
+use Rattle.std.specs.Prelude.{ℕ, ◌==◌, Bool, List, [], ◌∷◌, if◌then◌else◌}
 use Rattle.ep_base.specs.Hearing.{Activated}
 use Rattle.ep_base.specs.CardAnswer.{Answered}
 use Rattle.ep_base.specs.CardEnd.{Image}
@@ -11,13 +11,6 @@ pub record Rules (S : Type 0) : Type 0 where
   pub answers : ℕ → S → List ℕ → Answered × S
   pub deselected : S → S
   pub number_of : Activated → ℕ
-
--- Commands have at most 261 bytes, responses 2 to 258, and at most eight S(WTX) come before one.
-pub record AreRules {S : Type 0} (rules : Rules S) : Type 0 where
-  pub commands : (command : List ℕ) → rules.is_command command ≡ true → length command ≤ 261
-  pub responses : (n : ℕ) (s : S) (command : List ℕ) → (2 ≤ length (rules.answers n s command).0.response) × (length (rules.answers n s command).0.response ≤ 258)
-  pub waits : (n : ℕ) (s : S) (command : List ℕ) → (rules.answers n s command).0.wtx ≤ 8
-  pub once : (s : S) → rules.deselected (rules.deselected s) ≡ rules.deselected s
 
 abbrev pub unasked : Answered
 unasked = record { response = 0 ∷ 0 ∷ []; wtx = 0; wtxm = 1 }

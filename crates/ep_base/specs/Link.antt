@@ -1,7 +1,7 @@
 -- One open link between a reader and a card, over a list of fates (this project's own).
 use Rattle.std.specs.Prelude.{ℕ, Bool, true, false, List, [], ◌∷◌, Option, Some, None}
 use Rattle.ep_base.specs.Block.{Block, Heard, Bad, Intact}
-use Rattle.ep_base.specs.ReaderEnd.{Reader, Turn, Asks, Gives, Spends, Breaks, asked, reader_hears, begin}
+use Rattle.ep_base.specs.ReaderEnd.{Reader, Turn, Asks, Gives, Spends, Breaks, asked, reader_hears}
 use Rattle.ep_base.specs.CardEnd.{Image, Card, Answer, card_hears, mute}
 
 -- The sizes of frames that the card and the reader take.
@@ -48,39 +48,3 @@ run frames image [] r card = Open r card
 run frames image (f ∷ fates) r card =
     goes_on (run frames image fates) fates
     (hears_answer f.up frames r (goes_down f.down frames image card (asked r))) (goes_down f.down frames image card (asked r)).card
-
--- How a list of commands ends on one link: the responses, and the end of the last command that was begun.
-pub record Served : Type 0 where
-  pub responses : List (List ℕ)
-  pub end : End
-
-abbrev pub gave : List ℕ → Served → Served
-gave response s = record { responses = response ∷ s.responses; end = s.end }
-
-abbrev pub then_serve : (List Fate → Reader → Card → Served) → End → Served
-then_serve next (Open r card) = record { responses = []; end = Open r card }
-then_serve next (Done response r card fates) = gave response (next fates r card)
-then_serve next (Spent r card) = record { responses = []; end = Spent r card }
-then_serve next (Breach r card) = record { responses = []; end = Breach r card }
-
--- One command after another.
-abbrev pub serve : Frames → Image → List (List ℕ) → List Fate → Reader → Card → Served
-serve frames image [] fates r card = record { responses = []; end = Done [] r card fates }
-serve frames image (command ∷ commands) fates r card = then_serve (serve frames image commands) (run frames image fates (begin frames.card command r) card)
-
--- What the reader hears while a command is open.
-abbrev pub hears_on : (Reader → Card → List Heard) → Turn → Card → List Heard
-hears_on next (Asks r) card = next r card
-hears_on next (Gives response r) card = []
-hears_on next (Spends r) card = []
-hears_on next (Breaks r) card = []
-
-abbrev pub hearing : Frames → Image → Fate → Reader → Card → Heard
-hearing frames image f r card = comes_up f.up (goes_down f.down frames image card (asked r)).block
-
--- The hearings of a command's exchanges, in order.
-abbrev pub hearings : Frames → Image → List Fate → Reader → Card → List Heard
-hearings frames image [] r card = []
-hearings frames image (f ∷ fates) r card =
-    hearing frames image f r card
-    ∷ hears_on (hearings frames image fates) (reader_hears frames.reader r (hearing frames image f r card)) (goes_down f.down frames image card (asked r)).card

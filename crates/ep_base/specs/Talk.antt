@@ -95,3 +95,10 @@ by_end message collided again next (Found card) = next card
 unfoldable pub rounds : Message → ℕ → Bool → (Activated → Talk) → Talk
 rounds message zero collided next = Over NoCard
 rounds message (suc n) collided next = Poll (by_end message collided (λ c. rounds message n c next) next)
+
+-- The ends of the rounds among results.
+abbrev pub ends_of : List Result → List RoundEnd
+ends_of [] = []
+ends_of ((Round e) ∷ results) = e ∷ ends_of results
+ends_of ((Response r) ∷ results) = ends_of results
+ends_of (Closed ∷ results) = ends_of results

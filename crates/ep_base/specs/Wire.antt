@@ -6,7 +6,7 @@ use Rattle.ep_base.specs.Frame.{opened, is_bare, hits, after_burst}
 use Rattle.ep_base.specs.Hearing.{Framed, Hearing, Silence, Noise, Overlap, Frame, same_wave, wave_of_kind}
 use Rattle.ep_base.specs.Medium.{ToldMedium}
 use Rattle.ep_base.specs.Block.{Block}
-use Rattle.ep_base.specs.CardEnd.{Card, Answer, card_hears, is_halted}
+use Rattle.ep_base.specs.CardEnd.{Card, Answer, card_hears, is_halted, records, unlogged, fresh_card}
 use Rattle.ep_base.specs.CardEnd as Ends
 use Rattle.ep_base.specs.Spelling.{Read, Reads, Refuses, read_block}
 use Rattle.ep_base.specs.LinkFrames.{block_frame}
@@ -14,7 +14,6 @@ use Rattle.ep_base.specs.CardAnswer.{Image}
 use Rattle.ep_base.specs.Images.{image_from, state_after}
 use Rattle.ep_base.specs.Direct.{image_rules}
 use Rattle.ep_base.specs.Air.{Leg, Passes, Loses, Bursts, Leaves, Passage, Air, next_fate, gone_by, later}
-use Rattle.ep_base.specs.BlockField.{records, unlogged, fresh_card}
 
 -- A burst on a frame that goes down: one with check bytes comes damaged, one without that is damaged is heard by no card (this project's own).
 abbrev pub burst_down : ℕ → ℕ → Wave → List ℕ → Option (List ℕ)

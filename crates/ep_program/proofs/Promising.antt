@@ -10,7 +10,7 @@ use Rattle.law_radio.proofs.Closings.{transaction_closes_law}
 use Rattle.law_run.specs.Bounds.{log_bound}
 use Rattle.law_run.proofs.Bounding.{few_commands_lem}
 use Rattle.law_run.proofs.Scripting.{scripts_fall_lem}
-use Rattle.law_transaction.proofs.Talking.{scripted_lem}
+use Rattle.law_run.proofs.Legal.{scripted_lem}
 use Rattle.law_turns.specs.LaneText.{Job}
 use Rattle.law_turns.specs.WholeRun.{ProbeSteps, open_probe, Run, hears, asks, turn_of, takes_turn, run_step, opened_run, run_after}
 use Rattle.law_turns.specs.Telling.{jobs_of, AreTold}

@@ -4,7 +4,7 @@ use Rattle.std.specs.Io.KnownBytes.{Appends}
 use Rattle.ep_base.specs.Configuration.{Settings, count_of}
 use Rattle.ep_base.specs.Io.{AppendsPrefix}
 use Rattle.ep_base.specs.Kernel.{Script}
-use Rattle.law_transaction.specs.Legal.{ScriptedSends}
+use Rattle.ep_base.specs.KernelCommands.{ScriptedSends}
 use Rattle.law_turns.specs.Ending.{HasEnded}
 use Rattle.law_turns.specs.LaneText.{Job}
 use Rattle.law_turns.specs.WholeRun.{ProbeSteps, opened_run, run_after}

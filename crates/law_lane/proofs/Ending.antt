@@ -5,7 +5,7 @@ use Rattle.ep_base.specs.Round.{Waking}
 use Rattle.ep_base.specs.Block.{Deselect}
 use Rattle.ep_base.specs.Apdu.{is_command}
 use Rattle.ep_base.specs.Said.{Told, Ending}
-use Rattle.ep_base.specs.Talk.{Talk, Over, Say, Poll, Command, Close, Result, Round, Response, Closed, so_far, is_found, IsLegal}
+use Rattle.ep_base.specs.Talk.{Talk, Over, Say, Poll, Command, Close, Result, Round, Response, Closed, so_far, is_found, IsLegal, ends_of}
 use Rattle.ep_base.specs.CardAnswer.{Image, card_answer}
 use Rattle.ep_base.specs.Medium.{told}
 use Rattle.ep_base.specs.Polling.{PlaysRound}
@@ -14,19 +14,17 @@ use Rattle.ep_base.specs.Carry.{Follows}
 use Rattle.ep_base.specs.Field.{Field, field}
 use Rattle.ep_base.specs.Radio.{OpenLink, Radio, Comes}
 use Rattle.ep_base.specs.TransportRun.{HearEnd, Whole, AtLink}
-use Rattle.ep_base.specs.Course.{ends_of}
 use Rattle.ep_base.specs.Perfect.{Channel, Perfect, channel, presents, perfect, at_command, gave, executes}
 use Rattle.law_run.specs.Bounds.{AtMost}
-use Rattle.law_transaction.proofs.Imaging.{images_keep}
+use Rattle.law_wire.proofs.Limits.{images_keep}
 use Rattle.law_round.specs.Acting.{party_at}
 use Rattle.law_round.proofs.Playing.{always_plays_law}
 use Rattle.law_round.proofs.Linking.{keeps_cards_law}
 use Rattle.law_round.proofs.Lossless.{Passing}
 use Rattle.law_radio.specs.OverRadio.{IsNew, IsCarried, Keeps}
-use Rattle.law_radio.specs.Courses.{ClosesFound}
+use Rattle.law_radio.specs.Closings.{ClosesFound}
 use Rattle.law_radio.proofs.Cards.{have_all}
-use Rattle.law_radio.proofs.Playing.{Fails, keeps, whole_by}
-use Rattle.law_radio.proofs.Kept.{Kept, say_kept, poll_kept, close_kept, answer_kept}
+use Rattle.law_radio.proofs.Kept.{Fails, keeps, whole_by, Kept, say_kept, poll_kept, close_kept, answer_kept}
 use Rattle.law_link.specs.Bounds.{IsEnded}
 use Rattle.law_lane.specs.Standing.{Standing, Stopped, doing_by, standing, link_by, after_turn}
 use Rattle.law_lane.specs.Hearing.{HearsRounds}

@@ -1,20 +1,19 @@
 -- A transaction that is over, or astray, stays so; hence what holds at its end holds whenever it is over.
-use Rattle.std.proofs.Common.{◌≡◌, ◌≢◌, ℕ, zero, suc, ◌+◌, ◌-◌, ◌≤◌, List, ◌++◌, refl, sym, ap, subst, ◌∙◌, arith, Option, Some, None}
+use Rattle.std.proofs.Common.{◌≡◌, ◌≢◌, ℕ, zero, suc, ◌+◌, List, ◌++◌, refl, sym, ap, subst, ◌∙◌, arith, Option, Some, None}
 use Rattle.ep_base.specs.Hearing.{Activated, RoundEnd}
 use Rattle.ep_base.specs.CardAnswer.{Image}
 use Rattle.ep_base.specs.Medium.{told}
 use Rattle.ep_base.specs.Field.{Field, field}
 use Rattle.ep_base.specs.Radio.{Radio}
-use Rattle.ep_base.specs.Talk.{Talk}
+use Rattle.ep_base.specs.Talk.{Talk, ends_of}
 use Rattle.ep_base.specs.TransportRun.{HearEnd, Whole}
-use Rattle.ep_base.specs.Course.{ends_of}
 use Rattle.ep_base.specs.Direct.{image_rules}
 use Rattle.ep_base.specs.Perfect.{perfect, channel}
 use Rattle.law_radio.specs.OverRadio.{Keeps}
 use Rattle.law_lane.specs.Standing.{Doing, Rounds, Carries, Closing, Stopped, Astray, asked_by, ending_of}
 use Rattle.law_lane.specs.Hearing.{HearsRounds}
 use Rattle.law_lane.specs.Exchanges.{Lane, goes_by, lane_step, lane_after, opened_lane}
-use Rattle.law_lane.specs.LaneLaw.{LaneEnds, LanesAreOver, LanesKeep}
+use Rattle.law_lane.specs.LaneLaw.{LaneEnds, LanesKeep}
 use Rattle.law_lane.proofs.Moving.{times_more}
 use Rattle.law_lane.specs.Lossless.{NoLoss}
 use Rattle.law_lane.proofs.Ending.{whole_ends, lanes_end_law}
@@ -105,15 +104,3 @@ lanes_keep_law number_of images talk s n new carried closes =
       hears = λ ending is. (kept number_of images talk s n ending r is).0;
       keeps = λ ending later is. (kept number_of images talk s n ending r is).1 later;
     }
-
-pub lanes_are_over_law : LanesAreOver
-lanes_are_over_law number_of images talk s n new carried closes most =
-    let r = lanes_end_law number_of images talk s new carried closes in
-    let l = opened_lane talk s.medium in
-    let last = lane_after s.fsdi talk r.count l in
-    let few : r.count ≤ n = r.within n most in
-    let e : r.count + (n - r.count) ≡ n = omega (arith, few) in
-    let none : asked_by s.fsdi last.standing.doing ≡ None = none_asked s.fsdi last.standing.doing r.ending r.stopped in
-    let same : lane_after s.fsdi talk n l ≡ last =
-    ap (λ k. lane_after s.fsdi talk k l) (sym e) ∙ (times_more (lane_step s.fsdi talk) r.count (n - r.count) l ∙ stays s.fsdi talk (n - r.count) last none) in
-    (r.ending, ap (λ k. k.standing.doing) same ∙ r.stopped)

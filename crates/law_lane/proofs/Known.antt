@@ -18,8 +18,8 @@ use Rattle.ep_base.specs.Radio.{OpenLink, link_to}
 use Rattle.ep_base.specs.Images.{Rules, stored}
 use Rattle.ep_base.specs.Direct.{image_rules}
 use Rattle.ep_base.specs.Perfect.{Channel, presents}
-use Rattle.law_transaction.proofs.Imaging.{images_keep}
-use Rattle.law_transaction.proofs.Mutes.{stored_at}
+use Rattle.law_wire.proofs.Limits.{images_keep}
+use Rattle.law_radio.proofs.Stored.{stored_at}
 use Rattle.law_round.specs.Lawful.{Lawful, faces}
 use Rattle.law_round.specs.Polled.{SameCards}
 use Rattle.law_round.specs.Acting.{are_passages, is_open, linked_at, party_at, shown}

@@ -1,8 +1,7 @@
 pub mod Commanding
-pub mod Counting
 pub mod Ending
 pub mod Following
 pub mod Keeping
 pub mod Known
 pub mod Moving
-pub mod Transactions
+pub mod Worked

@@ -1,8 +1,7 @@
 -- How many exchanges a transaction has at most (this project's own).
-use Rattle.std.specs.Prelude.{ℕ, ◌+◌, ◌-◌, ◌*◌, ◌≤◌, List, length}
+use Rattle.std.specs.Prelude.{ℕ, ◌-◌, ◌*◌, ◌≤◌, List, length}
 use Rattle.ep_base.specs.Hearing.{RoundEnd}
 use Rattle.ep_base.specs.Talk.{Talk, Over, Say, Poll, Command, Close}
-use Rattle.law_run.specs.Bounds.{log_bound}
 
 -- The most exchanges of a poll round (this project's profile).
 abbrev pub round_most : ℕ
@@ -20,8 +19,3 @@ TakesAtMost n (Poll next) = (round_most ≤ n) × ((e : RoundEnd) → TakesAtMos
 TakesAtMost n (Command command next) =
     (command_most ≤ n) × ((r : List ℕ) → length r ≤ 258 → TakesAtMost (n - command_most) (next r))
 TakesAtMost n (Close next) = (1 ≤ n) × TakesAtMost (n - 1) next
-
--- The most exchanges of a transaction with so many restarts, Combinations and commands of kernels: in each Start B those of 64 rounds and of a
--- closing, and those of its commands (this project's own).
-abbrev pub exchange_bound : (restarts combinations commands : ℕ) → ℕ
-exchange_bound restarts combinations commands = (1 + restarts) * 705 + command_most * log_bound restarts combinations commands

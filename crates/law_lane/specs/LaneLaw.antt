@@ -4,14 +4,13 @@ use Rattle.ep_base.specs.Hearing.{Activated, RoundEnd}
 use Rattle.ep_base.specs.CardAnswer.{Image}
 use Rattle.ep_base.specs.Medium.{told}
 use Rattle.ep_base.specs.Field.{Field, field}
-use Rattle.ep_base.specs.Talk.{Talk}
+use Rattle.ep_base.specs.Talk.{Talk, ends_of}
 use Rattle.ep_base.specs.TransportRun.{HearEnd}
-use Rattle.ep_base.specs.Course.{ends_of}
 use Rattle.ep_base.specs.Direct.{image_rules}
 use Rattle.ep_base.specs.Perfect.{perfect, channel}
 use Rattle.ep_base.specs.Radio.{Radio}
 use Rattle.law_radio.specs.OverRadio.{IsNew, IsCarried, Keeps}
-use Rattle.law_radio.specs.Courses.{ClosesFound}
+use Rattle.law_radio.specs.Closings.{ClosesFound}
 use Rattle.law_lane.specs.Standing.{Stopped, Astray, asked_by}
 use Rattle.law_lane.specs.Bounds.{TakesAtMost}
 use Rattle.law_lane.specs.Hearing.{HearsRounds}
@@ -53,9 +52,3 @@ abbrev pub LanesKeep : Type 0
 LanesKeep = (number_of : Activated → ℕ) (images : ℕ → Image) (talk : Talk) (s : Radio Field) (n : ℕ) →
     IsNew number_of images s → IsCarried talk s.medium.room → ClosesFound false talk →
     LaneKeeps number_of images talk s (lane_after s.fsdi talk n (opened_lane talk s.medium))
-
--- After as many exchanges as the talk takes at most, each such transaction is over (this project's own).
-abbrev pub LanesAreOver : Type 0
-LanesAreOver = (number_of : Activated → ℕ) (images : ℕ → Image) (talk : Talk) (s : Radio Field) (n : ℕ) →
-    IsNew number_of images s → IsCarried talk s.medium.room → ClosesFound false talk → TakesAtMost n talk →
-    (ending : HearEnd) × ((lane_after s.fsdi talk n (opened_lane talk s.medium)).standing.doing ≡ Stopped ending)

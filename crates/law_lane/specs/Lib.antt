@@ -5,4 +5,3 @@ pub mod Hearing
 pub mod LaneLaw
 pub mod Lossless
 pub mod Standing
-pub mod Transactions

@@ -8,7 +8,7 @@ use Rattle.ep_base.specs.Radio.{Radio}
 use Rattle.ep_base.specs.Talk.{Talk}
 use Rattle.ep_base.specs.TransportRun.{HearEnd, Whole}
 use Rattle.law_radio.specs.OverRadio.{IsNew, IsCarried}
-use Rattle.law_radio.specs.Courses.{ClosesFound}
+use Rattle.law_radio.specs.Closings.{ClosesFound}
 use Rattle.law_lane.specs.Standing.{Stopped}
 use Rattle.law_lane.specs.Exchanges.{opened_lane, lane_after}
 use Rattle.law_lane.specs.LaneLaw.{LaneEnds}

@@ -3,11 +3,9 @@
 //! `specs/` states what such a transaction asks, what it makes of each hearing, and the laws.
 #![tactic(auto)]
 
-ghost use Rattle.ep_base.specs.Kernel.{KernelSteps};
 ghost use Rattle.law_lane.specs.Following.{EventsGrow, ExchangesAreMade};
-ghost use Rattle.law_lane.specs.LaneLaw.{LanesAreOver, LanesEnd, LanesKeep};
+ghost use Rattle.law_lane.specs.LaneLaw.{LanesEnd, LanesKeep};
 ghost use Rattle.law_lane.specs.Lossless.{NoLoss};
-ghost use Rattle.law_lane.specs.Transactions.{TransactionTakes, TransactionsEnd};
 
 /// A transaction over a new field of a document's cards comes to an end, whatever becomes of the frames and whichever
 /// cards are present in each round, in at most as many exchanges as its talk takes. Its results are those of whole poll
@@ -31,12 +29,6 @@ pub fn lanes_keep()
     ensures { LanesKeep }
 {}
 
-/// Such a transaction is over after as many exchanges as its talk takes at most: eleven for a poll round, 5859 for a
-/// command, and one for a closing.
-pub fn lanes_are_over()
-    ensures { LanesAreOver }
-{}
-
 /// Where every frame passes, no link fails: the end to which such a transaction comes is whole, and so it is after
 /// however many exchanges, whenever the transaction is over.
 ///
@@ -56,16 +48,4 @@ pub fn events_grow()
 /// field answered, and together they lead to where the transaction stands, and to the field.
 pub fn exchanges_are_made()
     ensures { ExchangesAreMade }
-{}
-
-/// The transaction of Entry Point, with kernels that send commands alone and whose counts fall, is such a transaction,
-/// where the log has room for one record more than its bound. S has the states of the kernels.
-pub fn transactions_end<S>()
-    ensures { (k : KernelSteps S) → TransactionsEnd k }
-{}
-
-/// The transaction of Entry Point, with kernels whose counts fall, takes at most 705 exchanges for each Start B and 5859
-/// for each command. S has the states of the kernels.
-pub fn transaction_takes<S>()
-    ensures { (k : KernelSteps S) → TransactionTakes k }
 {}

@@ -1,8 +1,5 @@
 pub mod Bounding
-pub mod Commands
 pub mod Cutting
-pub mod Events
 pub mod Exchange
 pub mod Few
-pub mod Onward
 pub mod Worked

@@ -3,7 +3,7 @@ use Rattle.std.specs.Prelude.{◌≡◌, ◌⊎◌, ℕ, suc, ◌*◌, ◌≤◌
 use Rattle.ep_base.specs.Block.{other, is_bad, count}
 use Rattle.ep_base.specs.ReaderEnd.{Reader, Idle, begin}
 use Rattle.ep_base.specs.CardEnd.{Image, Card, Parts}
-use Rattle.ep_base.specs.Link.{Frames, Fate, End, Open, Done, Spent, Breach, run, Served, serve}
+use Rattle.ep_base.specs.Link.{Frames, Fate, End, Open, Done, Spent, Breach, run}
 
 -- An image's commands have at most 261 bytes, its responses 2 to 258, and at most eight S(WTX) come before one.
 pub record IsImage (image : Image) : Type 0 where
@@ -38,38 +38,6 @@ abbrev pub OneCommand : Type 0
 OneCommand = (frames : Frames) (image : Image) (fates : List Fate) (r : Reader) (card : Card) (command : List ℕ) →
     AreFrames frames → IsImage image → IsIdle r card → image.is_command command ≡ true →
     ExactlyOnce image card.log command (run frames image fates (begin frames.card command r) card)
-
--- The responses over a channel that loses nothing.
-abbrev pub perfect_responses : Image → List (List ℕ) → List (List ℕ) → List (List ℕ)
-perfect_responses image before [] = []
-perfect_responses image before (command ∷ commands) =
-    (image.answer (before ++ command ∷ [])).response ∷ perfect_responses image (before ++ command ∷ []) commands
-
-abbrev pub AllCommands : Image → List (List ℕ) → Type 0
-AllCommands image [] = Unit {0}
-AllCommands image (command ∷ commands) = (image.is_command command ≡ true) × AllCommands image commands
-
--- The end of a link after these executions, with these commands without a response. It is open where the fates ran out within a command.
-abbrev pub EndsOnce : List (List ℕ) → List (List ℕ) → End → Type 0
-EndsOnce executed left (Done response r card fates) = (left ≡ []) × (card.log ≡ executed) × IsIdle r card
-EndsOnce executed [] (Spent r card) = ⊥
-EndsOnce executed (command ∷ left) (Spent r card) = (count is_bad r.since ≡ 3) × ((card.log ≡ executed) ⊎ (card.log ≡ executed ++ command ∷ []))
-EndsOnce executed [] (Open r card) = ⊥
-EndsOnce executed (command ∷ left) (Open r card) = (card.log ≡ executed) ⊎ (card.log ≡ executed ++ command ∷ [])
-EndsOnce executed left (Breach r card) = ⊥
-
--- How a list of commands may end on a link: a first part of them is answered as over a perfect channel and each of it was executed once; the
--- next command, where there is one, was executed at most once.
-abbrev pub EachOnce : Image → List (List ℕ) → List (List ℕ) → Served → Type 0
-EachOnce image before commands s =
-    (done : List (List ℕ)) × (left : List (List ℕ)) × (done ++ left ≡ commands) × (s.responses ≡ perfect_responses image before done)
-    × EndsOnce (before ++ done) left s.end
-
--- One command after another, whatever becomes of the frames.
-abbrev pub Session : Type 0
-Session = (frames : Frames) (image : Image) (commands : List (List ℕ)) (fates : List Fate) (r : Reader) (card : Card) →
-    AreFrames frames → IsImage image → IsIdle r card → AllCommands image commands →
-    EachOnce image card.log commands (serve frames image commands fates r card)
 
 -- How many exchanges lose a frame.
 abbrev pub is_loss : Fate → Bool

@@ -5,8 +5,7 @@
 #![tactic(auto)]
 
 ghost use Rattle.law_link.specs.Bounds.{BoundedToggles, CommandEnds, FewToggles, LinkEnds};
-ghost use Rattle.law_link.specs.ByEvents.{OnceByEvents};
-ghost use Rattle.law_link.specs.Once.{FewLosses, OneCommand, Session};
+ghost use Rattle.law_link.specs.Once.{FewLosses, OneCommand};
 
 /// Whatever frames are lost, a command is answered with its image's response and was executed once; or three
 /// exchanges were bad since the reader's last toggle, and it was executed at most once. At every moment before its
@@ -16,17 +15,6 @@ ghost use Rattle.law_link.specs.Once.{FewLosses, OneCommand, Session};
 /// frames have at least 16 bytes; the link is between two commands.
 pub fn one_command()
     ensures { OneCommand }
-{}
-
-/// The same of a list of commands on one link: a first part of them is answered as over a perfect channel, each
-/// executed once, and the next command, where the link failed, was executed at most once.
-pub fn session()
-    ensures { Session }
-{}
-
-/// The same of the reader's end as a function of all that happened since the link was opened.
-pub fn once_by_events()
-    ensures { OnceByEvents }
 {}
 
 /// Whatever the reader hears, and from whatever card: at most 21 exchanges lead from one toggle of its block number

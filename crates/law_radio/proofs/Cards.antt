@@ -11,7 +11,7 @@ use Rattle.ep_base.specs.Field.{Outside, OfA, OfB, outside_reset, Placed}
 use Rattle.law_round.specs.Inside.{is_out}
 use Rattle.law_round.specs.Lawful.{kind_of, id_of, names, Face, faces, reset_faces}
 use Rattle.law_round.specs.Acting.{linked_at, party_at, without}
-use Rattle.law_transaction.proofs.Mutes.{stored_at, stored_other}
+use Rattle.law_radio.proofs.Stored.{stored_at, stored_other}
 use Rattle.law_radio.specs.OverRadio.{numbers, IsOther, AreDistinct, AreNumbered, HaveImages}
 
 -- ---- the first of a list, and the others

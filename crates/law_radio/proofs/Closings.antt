@@ -13,7 +13,7 @@ use Rattle.ep_base.specs.Said.{Verdict, Given}
 use Rattle.ep_base.specs.Kernel.{Move, Send, Done, KernelSteps}
 use Rattle.ep_base.specs.Talk.{Talk, is_found, say_collision, by_end, rounds}
 use Rattle.ep_base.specs.EntryPoint.{start_b, say_message, after_kind, after_verdict, after_move, kernel_runs, activates, given_to, selects, presented, starts, say_ready}
-use Rattle.law_radio.specs.Courses.{ClosesFound, TransactionCloses}
+use Rattle.law_radio.specs.Closings.{ClosesFound, TransactionCloses}
 
 module _ (message : Message) (next : Activated → Talk) (closes : (card : Activated) → ClosesFound true (next card)) where
   collision_closes : (collided : Bool) (t : Talk) → ClosesFound false t → ClosesFound false (say_collision collided message t)

@@ -1,12 +1,9 @@
-pub mod Alongside
 pub mod Cards
 pub mod Closings
-pub mod Existing
 pub mod Finding
 pub mod Kept
 pub mod Numbers
 pub mod Opening
-pub mod Playing
 pub mod Purchases
-pub mod Single
+pub mod Stored
 pub mod Thirds

@@ -2,13 +2,11 @@
 use Rattle.std.proofs.Common.{◌≡◌, List, [], ◌∷◌, sym, subst}
 use Rattle.ep_base.specs.Hearing.{Hearing}
 use Rattle.ep_base.specs.Block.{Heard}
-use Rattle.ep_base.specs.ReaderEnd.{Reader, Turn, Asks, Gives, Spends, Breaks, begin}
+use Rattle.ep_base.specs.ReaderEnd.{Reader, Turn, Asks, Gives, Spends, Breaks}
 use Rattle.ep_base.specs.LinkFrames.{LinkSetting, heard_block}
 use Rattle.ep_base.specs.Medium.{MediumSteps}
 use Rattle.ep_base.specs.Carry.{turn_on, GoesOn, Follows}
-use Rattle.law_link.specs.Bounds.{after_all, IsBounded}
-use Rattle.law_link.proofs.Bounding.{bounded_toggles}
-use Rattle.law_radio.specs.Thirds.{SpentAtThird}
+use Rattle.law_link.specs.Bounds.{after_all}
 
 module _ {S : Type 0} (steps : MediumSteps S) (set : LinkSetting) where
   unfoldable pub read : List Hearing → List Heard
@@ -30,8 +28,3 @@ module _ {S : Type 0} (steps : MediumSteps S) (set : LinkSetting) where
   unfolding read
   turn_is [] r s t turn x = x.0
   turn_is (h ∷ hs) r s t turn x = goes (turn_on set r h) hs x.0 t turn (λ q y. turn_is hs q x.0 t turn y) x.2
-
-pub spent_at_third_law : {S : Type 0} (steps : MediumSteps S) → SpentAtThird steps
-spent_at_third_law steps l command s t turn fresh comes =
-    subst (λ x. IsBounded x) (sym (turn_is steps l.set comes.hearings (begin l.set.frames.card command l.reader) s t turn comes.follows))
-    (bounded_toggles l.set.frames.card l.set.frames.reader command l.reader (read steps l.set comes.hearings) fresh)

@@ -1,6 +1,4 @@
-pub mod Courses
-pub mod Lossless
+pub mod Closings
 pub mod Opening
 pub mod OverRadio
 pub mod Purchases
-pub mod Thirds

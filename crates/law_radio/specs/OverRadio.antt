@@ -1,20 +1,18 @@
--- A talk over the radio, against the perfect run for the ends of its rounds (this project's own).
-use Rattle.std.specs.Prelude.{◌≡◌, ◌≢◌, ℕ, ◌<◌, false, List, [], ◌∷◌, ◌++◌, None}
-use Rattle.ep_base.specs.Hearing.{Activated, RoundEnd}
+-- A transaction over a field, against the perfect run for the ends of its rounds (this project's own).
+use Rattle.std.specs.Prelude.{◌≡◌, ◌≢◌, ◌⊎◌, ℕ, suc, ◌<◌, false, List, [], ◌∷◌, ◌++◌, None, length}
+use Rattle.ep_base.specs.Hearing.{Activated}
 use Rattle.ep_base.specs.Apdu.{is_command}
 use Rattle.ep_base.specs.CardAnswer.{Image}
 use Rattle.ep_base.specs.Medium.{told}
 use Rattle.ep_base.specs.Field.{Placed, Field, field}
 use Rattle.ep_base.specs.Block.{is_bad, count}
 use Rattle.ep_base.specs.ReaderEnd.{Reader, Spends}
-use Rattle.ep_base.specs.Radio.{OpenLink, Radio, Comes, radio}
-use Rattle.ep_base.specs.Talk.{Talk, Result, Nothing, so_far, IsLegal}
-use Rattle.ep_base.specs.TransportRun.{HearEnd, Whole, AtLink, AtBreach, AtDevice, Hears, said_for}
-use Rattle.ep_base.specs.Course.{ends_of}
-use Rattle.ep_base.specs.Direct.{image_rules}
-use Rattle.ep_base.specs.Perfect.{Perfect, perfect, channel}
+use Rattle.ep_base.specs.Radio.{OpenLink, Radio, Comes}
+use Rattle.ep_base.specs.Said.{Said, Apdu, EndLink}
+use Rattle.ep_base.specs.Talk.{Talk, Result, Round, Response, Closed, Commands, Nothing, so_far, IsLegal}
+use Rattle.ep_base.specs.TransportRun.{HearEnd, Whole, AtLink, AtBreach, AtDevice, said_for}
+use Rattle.ep_base.specs.Perfect.{Perfect}
 use Rattle.law_run.specs.Bounds.{AtMost}
-use Rattle.law_transaction.specs.Law.{EndsInLink}
 use Rattle.law_round.specs.Lawful.{kind_of, id_of, Lawful}
 
 -- The numbers of the cards' images (this project's own).
@@ -77,17 +75,33 @@ pub record AtThird (u : Field) (command : List ℕ) : Type 0 where
   pub comes : Comes (told field) link command before (Spends reader) u
   pub third : count is_bad reader.since ≡ 3
 
+-- How many responses are among the results.
+abbrev pub responses : List Result → ℕ
+responses [] = 0
+responses ((Round e) ∷ results) = responses results
+responses ((Response r) ∷ results) = suc (responses results)
+responses (Closed ∷ results) = responses results
+
+-- A transaction that ends with a link failure, against the perfect run: one wished command has no response; the events are those of the
+-- perfect run before its Apdu, and then End Link; the executions are those before it, and perhaps its own.
+pub record EndsInLink (talk : Talk) (results : List Result) (events : List Said) (log : List (ℕ × List ℕ)) (p : Perfect) : Type 0 where
+  pub number : ℕ
+  pub command : List ℕ
+  pub wished : (so_far talk results).wish ≡ Commands command
+  pub response : List ℕ
+  pub before : List Said
+  pub after : List Said
+  pub perfect_said : (so_far talk p.results).events ≡ before ++ Apdu command response ∷ after
+  pub said : events ≡ before ++ EndLink ∷ []
+  pub earlier : List (ℕ × List ℕ)
+  pub later : List (ℕ × List ℕ)
+  pub perfect_executed : p.commands ≡ earlier ++ (number, command) ∷ later
+  pub all_earlier : length earlier ≡ responses results
+  pub executed : (log ≡ earlier) ⊎ (log ≡ earlier ++ (number, command) ∷ [])
+
 -- By what ended the hearing: it came to its end, or a link failed at a command's third bad hearing, and nothing else comes (this project's own).
 abbrev pub Keeps : Talk → List Result → Field → Perfect → HearEnd → Type 0
 Keeps talk heard u p Whole = IsWhole talk heard u.log p
 Keeps talk heard u p AtLink = (e : EndsInLink talk heard (said_for talk heard AtLink) u.log p) × AtThird u e.command
 Keeps talk heard u p AtBreach = ⊥
 Keeps talk heard u p AtDevice = ⊥
-
--- Whatever becomes of the frames, and whichever cards are present in each round: what a talk over the radio hears and what the cards execute is
--- as in the perfect run for the ends of its rounds, and whatever ends come later (this project's own).
-abbrev pub OverRadio : Type 0
-OverRadio =
-    (number_of : Activated → ℕ) (images : ℕ → Image) (talk : Talk) (s u : Radio Field) (heard : List Result) (ending : HearEnd) (later : List RoundEnd) →
-    IsNew number_of images s → IsCarried talk s.medium.room → Hears (radio (told field)) talk [] s heard ending u →
-    Keeps talk heard u.medium (perfect (image_rules number_of) talk (ends_of heard ++ later) (channel images)) ending

@@ -11,7 +11,7 @@ use Rattle.ep_base.specs.CardAnswer.{Image, IsImage}
 use Rattle.ep_base.specs.Frame.{sealed}
 use Rattle.ep_base.specs.Spelling.{spelled}
 use Rattle.law_wire.proofs.Alike.{carried_alike_lem}
-use Rattle.law_transaction.proofs.Imaging.{images_keep}
+use Rattle.law_wire.proofs.Limits.{images_keep}
 use Rattle.law_round.specs.Acting.{is_open, without, shown}
 use Rattle.law_round.specs.Lawful.{names, faces, Lawful}
 use Rattle.law_round.proofs.Lawfulness.{lawful_send}

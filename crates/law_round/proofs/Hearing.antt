@@ -7,7 +7,7 @@ use Rattle.ep_base.specs.Hearing.{Framed, Hearing, Silence, Turn, Goes, CardRepl
 use Rattle.ep_base.specs.TypeA.{Woken, Level, Select, Complete, APlan, AState, Idle, Ready, Active, Protocol, Halted, a_opened, a_card}
 use Rattle.ep_base.specs.TypeB.{BPlan, BState, BIdle, BReady, BProtocol, b_opened, b_card}
 use Rattle.ep_base.specs.Round.{Stage, Waking, Halting, WakingB, InA, InB, round_asks, round_hears}
-use Rattle.ep_base.specs.BlockField.{fresh_card}
+use Rattle.ep_base.specs.CardEnd.{fresh_card}
 use Rattle.ep_base.specs.Field.{Outside, OfA, OfB, outside_after, outside_reply, outside_reset, Placed, Told, untouched, by_reply, hears_frame, one_hears, Heard, maybe_answer, and_then, all_hear}
 use Rattle.law_round.specs.Inside.{is_inside}
 use Rattle.law_round.specs.Lawful.{IsFormed, ArePlaced, faces}

@@ -13,15 +13,14 @@ use Rattle.ep_base.specs.Activation.{bit}
 use Rattle.std.specs.Prelude.{slice_index}
 use Rattle.ep_base.specs.TypeA.{APlan, AState, Idle, Ready, Active, Protocol, Halted, wupa, hlta, sel, levels, level_part, sak_of, ats_of, atqa, after_select, is_rats, a_select, a_other, a_takes, a_opened, a_card}
 use Rattle.ep_base.specs.CardAnswer.{Answered, Image, IsImage, card_answer}
-use Rattle.ep_base.specs.CardEnd.{is_halted, card_hears}
-use Rattle.ep_base.specs.BlockField.{unlogged}
+use Rattle.ep_base.specs.CardEnd.{is_halted, card_hears, unlogged}
 use Rattle.ep_base.specs.Images.{unasked, answered}
 use Rattle.ep_base.specs.Direct.{image_rules}
 use Rattle.ep_base.specs.Spelling.{Read, Reads, Refuses, read_block}
 use Rattle.ep_base.specs.Air.{next_fate}
 use Rattle.ep_base.specs.Wire.{Party, Heeded, unmoved, by_commands, image_after, takes_read, takes_opened, takes_frame, comes_down}
 use Rattle.ep_base.specs.Field.{Outside, OfA, OfB, outside_after, outside_reply, outside_reset, outside_halted, Placed, Told, untouched, by_reply, hears_frame, one_hears, all_hear, left_by, away, is_present, placed_reset, all_reset, Field, field_reset, all_take, field_hears, field_send}
-use Rattle.law_transaction.proofs.Imaging.{images_keep}
+use Rattle.law_wire.proofs.Limits.{images_keep}
 use Rattle.law_wire.proofs.Passing.{next_legs}
 use Rattle.law_round.specs.Lawful.{IsUid, IsFormed, AtLevelOf, Stands, kind_of, id_of, IsPlaced, ArePlaced, names, AreApart, Lawful, BeginsLawful, StaysLawful}
 use Rattle.law_round.proofs.Presenting.{either, when, one_level}

@@ -7,7 +7,6 @@ pub mod Doing
 pub mod Fitting
 pub mod Hearing
 pub mod Lawfulness
-pub mod Learning
 pub mod Linking
 pub mod Lone
 pub mod Lossless
@@ -22,4 +21,3 @@ pub mod Singling
 pub mod Sizing
 pub mod SoloA
 pub mod SoloB
-pub mod Telling

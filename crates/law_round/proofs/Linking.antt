@@ -9,7 +9,7 @@ use Rattle.ep_base.specs.Round.{Stage}
 use Rattle.ep_base.specs.Field.{Outside, OfA, OfB, Placed, Field, field}
 use Rattle.law_round.specs.Inside.{is_inside, is_out, all_out}
 use Rattle.law_round.specs.Lawful.{IsUid, Four, Seven, Ten, IsFormed, Stands, kind_of, id_of, IsPlaced, ArePlaced, names, IsApart, AreApart, Lawful}
-use Rattle.law_round.specs.Linked.{AreFound, OnlyFound, HasLink, OneLink, LinksOne, KeepsCards}
+use Rattle.law_round.specs.Linked.{HasLink, OneLink, LinksOne, KeepsCards}
 use Rattle.law_round.proofs.Fitting.{Next}
 use Rattle.law_round.proofs.Hearing.{CardFits, AllFits, AnyInside}
 use Rattle.law_round.proofs.Rounds.{Mode, Fit, round_ends, round_faces}
@@ -52,10 +52,6 @@ module _ (fsdi : ℕ) (card : Activated) where
 
   found_one : (p : Placed) → CardFits fsdi turn p → is_inside p.outside ≡ true → IsIt p.outside
   found_one p h i = inside_is p.outside (h.next (is_there p p.present refl h i)) i
-
-  all_found : (ps : List Placed) → AllFits fsdi turn ps → AreFound card ps
-  all_found [] h = tt
-  all_found (p ∷ ps) h = (λ i. found_one p h.0 i, all_found ps h.1)
 
   has_link : (p : Placed) → IsPlaced p → CardFits fsdi turn p → is_inside p.outside ≡ true → HasLink fsdi card p
   has_link p d h i = record {
@@ -132,9 +128,6 @@ module _ (fsdi : ℕ) (card : Activated) where
   one_link t e =
       let x = split t.cards e.lawful.cards e.lawful.apart e.fits e.any in
       (x.0, x.1, x.2, x.3, x.4, x.5, x.6, e.there)
-
-pub only_found_law : OnlyFound
-only_found_law fsdi s t card l x = all_found fsdi card t.cards (at_end fsdi card s t l x).fits
 
 pub links_one_law : LinksOne
 links_one_law fsdi s t card l x = one_link fsdi card t (at_end fsdi card s t l x)

@@ -7,10 +7,10 @@ use Rattle.ep_base.specs.Block.{Block}
 use Rattle.ep_base.specs.Carry.{SendsBlock, AtRest, OfLink, Follows}
 use Rattle.ep_base.specs.Field.{Field, field_send, field}
 use Rattle.ep_base.specs.Frame.{sealed}
-use Rattle.ep_base.specs.Hearing.{Asked, Hearing, RoundEnd, Empty, Collision, Unsupported, Broken, Found, Turn, Goes, Ends, wave_of_kind}
+use Rattle.ep_base.specs.Hearing.{Asked, Hearing, RoundEnd, Turn, Goes, Ends, wave_of_kind}
 use Rattle.ep_base.specs.LinkFrames.{LinkSetting}
 use Rattle.ep_base.specs.Medium.{told, AfterReset, ExchangesBy}
-use Rattle.ep_base.specs.Polling.{Polled, AfterExchange, AfterEnd, AfterRound, Plays, PlaysRound, PlaysRounds, card_in}
+use Rattle.ep_base.specs.Polling.{AfterExchange, Plays, PlaysRound}
 use Rattle.ep_base.specs.ReaderEnd as links
 use Rattle.ep_base.specs.ReaderEnd.{Reader, begin}
 use Rattle.ep_base.specs.Round.{Stage, round_asks, round_hears}
@@ -73,28 +73,6 @@ module _ (fsdi : ℕ) where
   -- a round leaves it so
   pub round_passing : (s t : Field) (ending : Option RoundEnd) → Passing s → PlaysRound (told field) fsdi s ending t → Passing t
   round_passing s t ending all x = plays_passing 11 _ s t ending all x
-
-  after_end : (u t : Field) (e : RoundEnd) (ends : List RoundEnd) (polled : Polled) (Then : Field → List RoundEnd → Polled → Field → Type 0)
-      → ((more : List RoundEnd) → Then u more polled t → Passing t) → Passing u → AfterEnd (told field) fsdi Then e (card_in e) u ends polled t → Passing t
-  after_end u t (Found card) ends polled Then more all x = subst (λ (f : Field). Passing f) (sym x.2) all
-  after_end u t Empty ends polled Then more all x = more x.0 x.2
-  after_end u t Collision ends polled Then more all x = more x.0 x.2
-  after_end u t Unsupported ends polled Then more all x = more x.0 x.2
-  after_end u t Broken ends polled Then more all x = more x.0 x.2
-
-  after_round : (u t : Field) (ending : Option RoundEnd) (ends : List RoundEnd) (polled : Polled) (Then : Field → List RoundEnd → Polled → Field → Type 0)
-      → ((more : List RoundEnd) → Then u more polled t → Passing t) → Passing u → AfterRound (told field) fsdi Then ending u ends polled t → Passing t
-  after_round u t (Some e) ends polled Then more all x = after_end u t e ends polled Then more all x
-  after_round u t None ends polled Then more all x = subst (λ (f : Field). Passing f) (sym x.2) all
-
-  -- and so do several
-  pub rounds_passing : (n : ℕ) (s t : Field) (ends : List RoundEnd) (polled : Polled) → Passing s → PlaysRounds (told field) fsdi n s ends polled t → Passing t
-  unfolding PlaysRounds
-  rounds_passing zero s t ends polled all x = subst (λ (f : Field). Passing f) (sym x.2) all
-  rounds_passing (suc n) s t ends polled all x =
-      let u : Field = x.1 in
-      let still : Passing u = round_passing s u x.0 all x.2 in
-      after_round u t x.0 ends polled (PlaysRounds (told field) fsdi n) (λ more y. rounds_passing n u t more polled still y) still x.3
 
 -- ---- links
 

@@ -21,7 +21,6 @@ use Rattle.ep_base.specs.Field.{Outside, OfA, OfB, outside_after, outside_reply,
 use Rattle.rf_frame.proofs.Opening.{ends_sealed}
 use Rattle.law_wire.proofs.Reading.{opened_spelled}
 use Rattle.law_round.specs.Inside.{a_out, b_out, is_out, all_out}
-use Rattle.law_round.specs.Muteness.{OthersMute}
 use Rattle.law_round.proofs.Arriving.{Arrival, Lost, Whole, Damaged, arrives}
 
 -- the first bytes of blocks
@@ -187,6 +186,3 @@ by_arrival kind b _ bytes (Damaged x d) e =
 pub comes_block : (kind : CardKind) (b : Block) (leg : Leg) (bytes : List ℕ) → IsLeg leg → comes_down leg (wave_of_kind kind) (sealed (wave_of_kind kind) (spelled b)) ≡ Some bytes
     → IsBlock (opened (wave_of_kind kind) bytes)
 comes_block kind b leg bytes l e = by_arrival kind b (comes_down leg (wave_of_kind kind) (sealed (wave_of_kind kind) (spelled b))) bytes (arrives leg (wave_of_kind kind) (sealed (wave_of_kind kind) (spelled b)) l (block_good kind b)) e
-
-pub others_mute_law : OthersMute
-others_mute_law kind b leg bytes room log ps l e o = all_keep kind bytes room log ps (comes_block kind b leg bytes l e) o

@@ -2,10 +2,9 @@
 use Rattle.std.proofs.Common.{◌≡◌, ℕ, ◌+◌, ◌≤◌, true, false, List, [], ◌∷◌, ◌++◌, length, Some, sym, ap, ◌∙◌, subst, refl}
 use Rattle.ep_base.specs.declared.air.CardKind.{CardKind}
 use Rattle.ep_base.specs.Hearing.{Activated, Found}
-use Rattle.ep_base.specs.CardEnd.{Card, is_halted}
+use Rattle.ep_base.specs.CardEnd.{Card, is_halted, fresh_card}
 use Rattle.ep_base.specs.CardAnswer.{IsImage}
 use Rattle.ep_base.specs.Dialogue as dialogue
-use Rattle.ep_base.specs.BlockField.{fresh_card}
 use Rattle.ep_base.specs.Medium.{told}
 use Rattle.ep_base.specs.Wire.{Party}
 use Rattle.ep_base.specs.Carry.{AtRest}

@@ -5,10 +5,9 @@ use Rattle.ep_base.specs.declared.air.CardKind.TheVariants as kinds
 use Rattle.ep_base.specs.FrameSize.{frame_size}
 use Rattle.ep_base.specs.Hearing.{Hearing, Activated, Found, same_kind}
 use Rattle.ep_base.specs.Block.{Block, same}
-use Rattle.ep_base.specs.CardEnd.{is_halted}
+use Rattle.ep_base.specs.CardEnd.{is_halted, fresh_card}
 use Rattle.ep_base.specs.Dialogue.{opened}
 use Rattle.ep_base.specs.LinkFrames.{LinkSetting}
-use Rattle.ep_base.specs.BlockField.{fresh_card}
 use Rattle.ep_base.specs.Air.{Leg, Passes, Loses, Bursts, Leaves, Passage}
 use Rattle.ep_base.specs.Medium.{told}
 use Rattle.ep_base.specs.Polling.{PlaysRound}

@@ -3,8 +3,6 @@ pub mod Alone
 pub mod Ending
 pub mod Inside
 pub mod Lawful
-pub mod Learned
 pub mod Linked
-pub mod Muteness
 pub mod Once
 pub mod Polled

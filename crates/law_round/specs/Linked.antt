@@ -1,25 +1,13 @@
 -- What a poll round leaves of a field (this project's own).
-use Rattle.std.specs.Prelude.{◌≡◌, ℕ, true, false, List, [], ◌∷◌, ◌++◌, Option, Some}
+use Rattle.std.specs.Prelude.{◌≡◌, ℕ, true, false, List, ◌∷◌, ◌++◌, Option, Some}
 use Rattle.ep_base.specs.FrameSize.{frame_size}
 use Rattle.ep_base.specs.Hearing.{Activated, RoundEnd, Found}
 use Rattle.ep_base.specs.Medium.{told}
 use Rattle.ep_base.specs.Polling.{PlaysRound}
-use Rattle.ep_base.specs.BlockField.{fresh_card}
+use Rattle.ep_base.specs.CardEnd.{fresh_card}
 use Rattle.ep_base.specs.Field.{Placed, Field, field}
 use Rattle.law_round.specs.Inside.{is_inside, all_out}
 use Rattle.law_round.specs.Lawful.{kind_of, id_of, Lawful, faces, reset_faces}
-
--- Each of these cards that is in the block protocol is the one that was found (ISO/IEC 14443-3).
-abbrev pub AreFound : Activated → List Placed → Type 0
-AreFound card [] = Unit {0}
-AreFound card (p ∷ ps) =
-    (is_inside p.outside ≡ true → (kind_of p.outside ≡ card.kind) × (id_of p.outside ≡ card.id)) × AreFound card ps
-
--- Whatever becomes of the frames and whichever cards are present: when a round ends with a card, no card of another kind or identifier is in
--- the block protocol (this project's own).
-abbrev pub OnlyFound : Type 0
-OnlyFound = (fsdi : ℕ) (s t : Field) (card : Activated) →
-    Lawful s → PlaysRound (told field) fsdi s (Some (Found card)) t → AreFound card t.cards
 
 -- A card with a link that was just opened: it is the card that was found, is present and in the block protocol, and its end of the link is fresh,
 -- with the reader's frame size (ISO/IEC 14443-4).

@@ -8,9 +8,7 @@ ghost use Rattle.law_round.specs.Acting.{FieldActs, OpensWire, OthersStay};
 ghost use Rattle.law_round.specs.Alone.{OneCardA, OneCardB};
 ghost use Rattle.law_round.specs.Ending.{AlwaysPlays, EndsInEleven};
 ghost use Rattle.law_round.specs.Lawful.{BeginsLawful, StaysLawful};
-ghost use Rattle.law_round.specs.Learned.{FoundAsPlanned};
-ghost use Rattle.law_round.specs.Linked.{KeepsCards, LinksOne, OnlyFound};
-ghost use Rattle.law_round.specs.Muteness.{OthersMute};
+ghost use Rattle.law_round.specs.Linked.{KeepsCards, LinksOne};
 ghost use Rattle.law_round.specs.Once.{ClosesQuietly, LeavesOthers, OnceInField, StaysReady};
 ghost use Rattle.law_round.specs.Polled.{PollsQuietly, PollsReady};
 
@@ -23,31 +21,10 @@ pub fn stays_lawful()
     ensures stays { StaysLawful }
 {}
 
-/// Whatever comes down of a block's frame, it moves no card outside the block protocol, and none of these answers.
-///
-/// Bursts have at most sixteen bits.
-pub fn others_mute()
-    ensures { OthersMute }
-{}
-
-/// Whatever becomes of the frames, whichever cards are present, and however much is in the log: when a round over a
-/// lawful field ends with a card, no card of another kind or identifier is in the block protocol.
-pub fn only_found()
-    ensures { OnlyFound }
-{}
-
 /// When a round over a lawful field ends with a card, this card is present and in the block protocol, with a fresh link
 /// of the reader's frame size; all others are outside the block protocol; and the cards haven't left.
 pub fn links_one()
     ensures { LinksOne }
-{}
-
-/// When a round over a lawful field ends with a card, the frame size and the frame waiting time integer that it tells are
-/// those of the card in the block protocol.
-///
-/// Codes of frame sizes have four bits, and application data four bytes.
-pub fn found_as_planned()
-    ensures { FoundAsPlanned }
 {}
 
 /// A round over a lawful field ends. Nothing is executed in it, and of each card the plan and the image stay, in which no

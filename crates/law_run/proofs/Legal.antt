@@ -1,23 +1,23 @@
 -- A transaction is legal: each command comes after a card was found, and before it is closed.
-use Rattle.std.proofs.Common.{◌≡◌, ◌==◌, ◌&&◌, ℕ, zero, suc, ◌+◌, ◌≤◌, nat_le, Bool, true, false, cond, List, [], ◌∷◌, ◌++◌, length, length-append, refl, arith, Some, None, Option}
-use Rattle.std.specs.List.{list_all}
+use Rattle.std.proofs.Common.{◌≡◌, ◌==◌, ◌&&◌, if◌then◌else◌, ℕ, zero, suc, ◌+◌, ◌≤◌, nat_le, Bool, true, false, cond, List, [], ◌∷◌, ◌++◌, length, length-append, refl, arith, Some, None, Option}
 use Rattle.std.proofs.lemmas.Bool.Decides.{nat_tests}
-use Rattle.std.proofs.lemmas.Bool.{cond_both, and_parts, and_from, leb-true}
+use Rattle.std.proofs.lemmas.Bool.{cond_both, and_parts, leb-true}
 use Rattle.ep_base.specs.declared.outcome.OutcomeKind.{OutcomeKind}
 use Rattle.ep_base.specs.declared.outcome.OutcomeKind.TheVariants.{SelectNext, TryAgain, Approved, Declined, OnlineRequest, TryAnother, EndApplication}
 use Rattle.ep_base.specs.declared.outcome.Message.{Message}
 use Rattle.ep_base.specs.declared.outcome.Message.TheVariants.{PresentCard, InsertOrSwipe, OneCardOnly}
 use Rattle.ep_base.specs.Hearing.{Activated, RoundEnd, Empty, Collision, Unsupported, Broken, Found}
 use Rattle.ep_base.specs.PreProcessing.{Ready, any_allowed}
-use Rattle.ep_base.specs.Apdu.{is_command, select, ppse_name, is_9000, status_of}
+use Rattle.ep_base.specs.Apdu.{is_command, select, ppse_name, is_9000}
 use Rattle.ep_base.specs.Directory.{directory}
 use Rattle.ep_base.specs.Candidates.{Candidate, candidates, extended_name, final_command}
 use Rattle.ep_base.specs.Said.{Verdict, Notice, Outcome, Finished}
-use Rattle.ep_base.specs.Kernel.{Move, Send, Done, KernelSteps, Step, Script, Awaited, Running, Scripted, script_for, without_script, begun, scripted, goes_on, answered, running_step}
-use Rattle.ep_base.specs.Talk.{Talk, Over, Say, Poll, Command, Close, IsLegal, is_found, say_collision, by_end, rounds}
+use Rattle.ep_base.specs.Kernel.{Move, Send, Done, KernelSteps, Step, Script, Awaited, Running, script_for, without_script, begun, scripted, goes_on, answered, running_step}
+use Rattle.ep_base.specs.KernelCommands.{IsSent, Begins, Steps, SendsCommands, StepsSend, ScriptsSend, RunningSends, ScriptedSends}
+use Rattle.ep_base.specs.Talk.{Talk, Over, Say, IsLegal, is_found, say_collision, by_end, rounds}
 use Rattle.ep_base.specs.EntryPoint.{start_b, say_message, after_kind, after_verdict, after_move, kernel_runs, activates, given_to, selects, presented, starts, say_ready}
 use Rattle.law_run.specs.CandidateFacts.{IsCandidate}
-use Rattle.law_run.specs.Legality.{IsSent, SendsOnly, SelectsPass, Legality, are_commands, runs_commands, scripts_commands, ScriptsSendCommands}
+use Rattle.law_run.specs.Legality.{Passes, SendsOnly, SelectsPass, Legality, Legal, ScriptedLegal}
 use Rattle.law_run.proofs.Picking.{Each, each_candidate}
 
 module _ (test : List ℕ → Bool) where
@@ -39,7 +39,7 @@ module _ (test : List ℕ → Bool) where
     rounds_legal zero collided found = tt
     rounds_legal (suc n) collided found = end_legal collided (λ c. rounds message n c next) (λ c. rounds_legal n c false)
 
-  module _ {S : Type 0} (k : KernelSteps S) (good : S → Bool) (sent : SendsOnly test good k) (passes : SelectsPass test) where
+  module _ {S : Type 0} (k : KernelSteps S) (Good : S → Type 0) (sent : SendsOnly test Good k) (passes : SelectsPass test) where
     extended_passes : (name : List ℕ) (supported : Bool) (o : Option (List ℕ)) → 5 ≤ length name → length name ≤ 16 → test (select (extended_name name supported o)) ≡ true
     extended_passes name supported None five sixteen = passes.names name five sixteen
     extended_passes name supported (Some extension) five sixteen =
@@ -49,14 +49,14 @@ module _ (test : List ℕ → Bool) where
         passes.names (name ++ extension) (omega (arith, length-append name extension)) (omega (arith, length-append name extension)))
         (λ h. passes.names name five sixteen)
 
-    abbrev Legal : Bool → (S → Talk) → Type 0
-    Legal found next = (s : S) → good s ≡ true → IsLegal test found (next s)
+    abbrev AllLegal : Bool → (S → Talk) → Type 0
+    AllLegal found next = (s : S) → Good s → IsLegal test found (next s)
 
     final_passes : (c : Candidate) → 5 ≤ length c.name → length c.name ≤ 16 → test (final_command c) ≡ true
     final_passes c five sixteen = extended_passes c.name c.one.combination.extended c.extension five sixteen
 
-    module _ (again : S → Talk) (again_legal : Legal false again) where
-      kind_legal : (more : S → Talk) → Legal true more → (kind : OutcomeKind) → Legal true (after_kind again more kind)
+    module _ (again : S → Talk) (again_legal : AllLegal false again) where
+      kind_legal : (more : S → Talk) → AllLegal true more → (kind : OutcomeKind) → AllLegal true (after_kind again more kind)
       kind_legal more h SelectNext s g = h s g
       kind_legal more h TryAgain s g = again_legal s g
       kind_legal more h Approved s g = tt
@@ -69,20 +69,20 @@ module _ (test : List ℕ → Bool) where
       message_legal None t h = h
       message_legal (Some message) t h = h
 
-      verdict_legal : (more : S → Talk) → Legal true more → (v : Verdict) → Legal true (after_verdict again more v)
+      verdict_legal : (more : S → Talk) → AllLegal true more → (v : Verdict) → AllLegal true (after_verdict again more v)
       verdict_legal more h v s g = message_legal v.message (after_kind again more v.kind s) (kind_legal more h v.kind s g)
 
-      move_legal : (more : S → Talk) → Legal true more → (go : S → Option (List ℕ) → Talk) → ((last : Option (List ℕ)) → Legal true (λ s. go s last))
-          → (p : Move × S) → IsSent test p.0 → good p.1 ≡ true → IsLegal test true (after_move (after_verdict again more) go p)
+      move_legal : (more : S → Talk) → AllLegal true more → (go : S → Option (List ℕ) → Talk) → ((last : Option (List ℕ)) → AllLegal true (λ s. go s last))
+          → (p : Move × S) → Passes test p.0 → Good p.1 → IsLegal test true (after_move (after_verdict again more) go p)
       move_legal more h go l ((Send command), t) is g = (refl, is, λ r. l (Some r) t g)
       move_legal more h go l ((Done verdict), t) is g = verdict_legal more h verdict t g
 
-      kernel_legal : (more : S → Talk) → Legal true more → (n : ℕ) (last : Option (List ℕ)) → Legal true (λ s. kernel_runs k (after_verdict again more) n s last)
+      kernel_legal : (more : S → Talk) → AllLegal true more → (n : ℕ) (last : Option (List ℕ)) → AllLegal true (λ s. kernel_runs k (after_verdict again more) n s last)
       kernel_legal more h zero last s g = tt
       kernel_legal more h (suc n) last s g =
           move_legal more h (kernel_runs k (after_verdict again more) n) (kernel_legal more h n) (k.step s last) (sent.sends s last g) (sent.step_good s last g)
 
-      selects_legal : (ones : List Ready) (cs : List Candidate) → Each (IsCandidate ones) cs → Legal true (selects k again cs)
+      selects_legal : (ones : List Ready) (cs : List Candidate) → Each (IsCandidate ones) cs → AllLegal true (selects k again cs)
       selects_legal ones [] are s g = tt
       selects_legal ones (c ∷ cs) are s g = (
         refl,
@@ -93,10 +93,10 @@ module _ (test : List ℕ → Bool) where
             (λ h. kernel_legal (selects k again cs) (selects_legal ones cs are.1) (k.commands t + 1) None t (sent.begin_good s (given_to c r) g)) (λ h. selects_legal ones cs are.1 s g),
       )
 
-      presented_legal : (ones : List Ready) (s : S) (card : Activated) → good s ≡ true → IsLegal test true (presented k again ones s card)
+      presented_legal : (ones : List Ready) (s : S) (card : Activated) → Good s → IsLegal test true (presented k again ones s card)
       presented_legal ones s card g = (refl, passes.directory, λ r. selects_legal ones (candidates ones (directory r)) (each_candidate ones (directory r)) s g)
 
-    starts_legal : (ones : List Ready) (n : ℕ) → Legal false (starts k ones n)
+    starts_legal : (ones : List Ready) (n : ℕ) → AllLegal false (starts k ones n)
     unfolding start_b
     starts_legal ones zero s g = rounds_legal OneCardOnly (presented k (λ t. Over Finished) ones s) (λ card. presented_legal (λ t. Over Finished) (λ t h. tt) ones s card g) 64 false false
     starts_legal ones (suc n) s g = rounds_legal OneCardOnly (presented k (starts k ones n) ones s) (λ card. presented_legal (starts k ones n) (starts_legal ones n) ones s card g) 64 false false
@@ -106,65 +106,63 @@ module _ (test : List ℕ → Bool) where
   ready_legal n (one ∷ ones) t h = ready_legal (n + 1) ones t h
 
 pub legality_lem : {S : Type 0} (k : KernelSteps S) → Legality k
-legality_lem k test good sent passes txn_type amount ones s g =
+legality_lem k test Good sent passes txn_type amount ones s g =
     ready_legal test 1 ones
     (cond (any_allowed ones) (Say (Notice PresentCard) (starts k ones (k.restarts s) s)) (Say (Outcome TryAnother) (Say (Notice InsertOrSwipe) (Over Finished))))
     (cond_both (any_allowed ones) (Say (Notice PresentCard) (starts k ones (k.restarts s) s)) (Say (Outcome TryAnother) (Say (Notice InsertOrSwipe) (Over Finished))) (IsLegal test false)
-    (λ h. starts_legal test k good sent passes ones (k.restarts s) s g) (λ h. tt))
+    (λ h. starts_legal test k Good sent passes ones (k.restarts s) s g) (λ h. tt))
 
--- What is legal for one test is legal for any that asks nothing.
-pub legal_any : (test : List ℕ → Bool) (found : Bool) (talk : Talk) → IsLegal test found talk → IsLegal (λ command. true) found talk
-legal_any test found (Over ending) h = tt
-legal_any test found (Say x next) h = legal_any test found next h
-legal_any test found (Poll next) h = λ e. legal_any test (is_found e) (next e) (h e)
-legal_any test found (Command c next) h = (h.0, refl, λ r. legal_any test found (next r) (h.2 r))
-legal_any test found (Close next) h = legal_any test false next h
+passed : (move : Move) → IsSent move → Passes is_command move
+passed (Send command) is = is
+passed (Done verdict) is = tt
 
 -- SELECT of a name of 5 to 16 bytes is a command, and so is SELECT PPSE.
 select_passes : (name : List ℕ) → 5 ≤ length name → length name ≤ 16 → is_command (select name) ≡ true
 unfolding is_command
 select_passes name five sixteen = grind (arith, nat_tests, length-append name (0 ∷ []))
 
--- Scripts whose steps are commands.
-begun_commands : (kernel : ℕ) (scripts : List Script) → list_all (λ (x : Script). are_commands x.steps) scripts ≡ true
-    → (list_all (λ (x : Script). are_commands x.steps) (without_script kernel scripts) && runs_commands (begun (script_for kernel scripts))) ≡ true
-begun_commands kernel [] h = refl
-begun_commands kernel (s ∷ scripts) h =
-    let both = and_parts (are_commands s.steps) (list_all (λ (x : Script). are_commands x.steps) scripts) h in
-    let rest = begun_commands kernel scripts both.1 in
-    let parts = and_parts (list_all (λ (x : Script). are_commands x.steps) (without_script kernel scripts)) (runs_commands (begun (script_for kernel scripts))) rest in
-    elim (s.kernel == kernel)
-    as (λ b. (list_all (λ (x : Script). are_commands x.steps) (cond b scripts (s ∷ without_script kernel scripts)) && runs_commands (begun (cond b (Some s) (script_for kernel scripts)))) ≡ true) [
-      | true ↦ and_from (list_all (λ (x : Script). are_commands x.steps) scripts) (are_commands s.steps) both.1 both.0
-      | false ↦ and_from (list_all (λ (x : Script). are_commands x.steps) (s ∷ without_script kernel scripts)) (runs_commands (begun (script_for kernel scripts)))
-          (and_from (are_commands s.steps) (list_all (λ (x : Script). are_commands x.steps) (without_script kernel scripts)) both.0 parts.0) parts.1
+commands_pass : SelectsPass is_command
+commands_pass = record { directory = select_passes ppse_name (omega arith) (omega arith); names = select_passes }
+
+pub legal_lem : {S : Type 0} (k : KernelSteps S) → Legal k
+legal_lem k txn_type amount ones s sends =
+    legality_lem k is_command (SendsCommands k) (record {
+      begin_good = λ s g good. λ calls. good (Begins g ∷ calls);
+      step_good = λ s last good. λ calls. good (Steps last ∷ calls);
+      sends = λ s last good. passed (k.step s last).0 (good [] last);
+    }) commands_pass txn_type amount ones s sends
+
+-- scripts
+script_sends : (kernel : ℕ) (scripts : List Script) → ScriptsSend scripts → RunningSends (begun (script_for kernel scripts)) × ScriptsSend (without_script kernel scripts)
+script_sends kernel [] all = (tt, tt)
+script_sends kernel (s ∷ scripts) all =
+    let more = script_sends kernel scripts all.1 in
+    elim (s.kernel == kernel) as (λ (b : Bool). RunningSends (begun (if b then Some s else script_for kernel scripts)) × ScriptsSend (if b then scripts else s ∷ without_script kernel scripts)) [
+      | true ↦ (all.0, all.1)
+      | false ↦ (more.0, (all.0, more.1))
     ]
 
--- A step's move, and what runs after it.
 abbrev Goes : Move × Option Running → Type 0
-Goes p = IsSent is_command p.0 × (runs_commands p.1 ≡ true)
+Goes m = Passes is_command m.0 × RunningSends m.1
 
-goes_commands : (v : Verdict) (steps : List Step) → are_commands steps ≡ true → Goes (goes_on v steps)
-goes_commands v [] h = (tt, refl)
-goes_commands v (x ∷ steps) h = let both = and_parts (is_command x.send) (are_commands steps) h in (both.0, both.1)
+goes_send : (verdict : Verdict) (steps : List Step) → StepsSend steps → Goes (goes_on verdict steps)
+goes_send verdict [] all = (tt, tt)
+goes_send verdict (x ∷ steps) all = all
 
-answered_commands : (v : Verdict) (steps : List Step) → are_commands steps ≡ true → (awaited : Option Awaited) (last : Option (List ℕ)) → Goes (answered v steps awaited last)
-answered_commands v steps h None last = goes_commands v steps h
-answered_commands v steps h (Some x) None = goes_commands v steps h
-answered_commands v steps h (Some x) (Some r) =
-    cond_both (status_of r == x.want) (goes_on v steps) (Done x.other, None) Goes (λ g. goes_commands v steps h) (λ g. (tt, refl))
+answers_send : (verdict : Verdict) (steps : List Step) → StepsSend steps → (awaited : Option Awaited) (last : Option (List ℕ)) → Goes (answered verdict steps awaited last)
+answers_send verdict steps all None last = goes_send verdict steps all
+answers_send verdict steps all (Some x) None = goes_send verdict steps all
+answers_send verdict steps all (Some x) (Some r) =
+    elim (_ == x.want) as (λ (b : Bool). Goes (if b then goes_on verdict steps else (Done x.other, None))) [ true ↦ goes_send verdict steps all | false ↦ (tt, tt) ]
 
-running_commands : (running : Option Running) (last : Option (List ℕ)) → runs_commands running ≡ true → Goes (running_step running last)
-running_commands None last h = (tt, refl)
-running_commands (Some r) last h = answered_commands r.verdict r.steps h r.awaited last
+step_sends : (o : Option Running) → RunningSends o → (last : Option (List ℕ)) → Goes (running_step o last)
+step_sends None all last = (tt, tt)
+step_sends (Some r) all last = answers_send r.verdict r.steps all r.awaited last
 
-pub scripts_send_lem : ScriptsSendCommands
-scripts_send_lem =
-    let split = λ (s : Scripted) (h : scripts_commands s ≡ true). and_parts (list_all (λ (x : Script). are_commands x.steps) s.scripts) (runs_commands s.running) h in
-    let sends : SendsOnly is_command scripts_commands scripted = record {
-      begin_good = λ s g h. begun_commands g.kernel s.scripts (split s h).0;
-      step_good = λ s last h. and_from (list_all (λ (x : Script). are_commands x.steps) s.scripts) (runs_commands (running_step s.running last).1) (split s h).0 (running_commands s.running last (split s h).1).1;
-      sends = λ s last h. (running_commands s.running last (split s h).1).0;
-    } in
-    let passes : SelectsPass is_command = record { directory = select_passes ppse_name (omega arith) (omega arith); names = select_passes } in
-    (sends, passes)
+pub scripted_lem : ScriptedLegal
+scripted_lem txn_type amount ones s all =
+    legality_lem scripted is_command ScriptedSends (record {
+      begin_good = λ s g good. let x = script_sends g.kernel s.scripts good.0 in (x.1, x.0);
+      step_good = λ s last good. (good.0, (step_sends s.running good.1 last).1);
+      sends = λ s last good. (step_sends s.running good.1 last).0;
+    }) commands_pass txn_type amount ones s all

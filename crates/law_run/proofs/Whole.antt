@@ -9,14 +9,14 @@ use Rattle.ep_base.specs.EntryPoint.{transaction}
 use Rattle.ep_base.specs.Transport.{EventSteps}
 use Rattle.ep_base.specs.Direct.{Direct}
 use Rattle.law_run.specs.Bounds.{log_bound}
-use Rattle.law_run.specs.Legality.{IsSent, SendsOnly, SelectsPass}
+use Rattle.law_run.specs.Legality.{Passes, SendsOnly, SelectsPass}
 use Rattle.law_run.specs.ShortAnswers.{IsShortImage}
 use Rattle.law_run.specs.OverPerfect.{Carries, TransactionOverPerfect}
 use Rattle.law_run.proofs.Bounding.{starts_more, few_commands_lem, few_starts_lem}
 use Rattle.law_run.proofs.Legal.{legality_lem}
 use Rattle.law_run.proofs.Playing.{perfect_lem}
 
-any_sent : (move : Move) → IsSent (λ command. true) move
+any_sent : (move : Move) → Passes (λ command. true) move
 any_sent (Send command) = refl
 any_sent (Done verdict) = tt
 
@@ -24,13 +24,13 @@ module _ {S : Type 0} (k : KernelSteps S) where
   -- Each of its commands comes after a card was found, and before it is closed.
   pub transaction_legal : (txn_type amount : ℕ) (ones : List Ready) (s : S) → IsLegal (λ command. true) false (transaction k txn_type amount ones s)
   transaction_legal txn_type amount ones s =
-      let sent : SendsOnly (λ command. true) (λ (s : S). true) k = record {
-        begin_good = λ s g h. refl;
-        step_good = λ s last h. refl;
+      let sent : SendsOnly (λ command. true) (λ (s : S). Unit {0}) k = record {
+        begin_good = λ s g h. tt;
+        step_good = λ s last h. tt;
         sends = λ s last h. any_sent (k.step s last).0;
       } in
       let passes : SelectsPass (λ command. true) = record { directory = refl; names = λ name five sixteen. refl } in
-      legality_lem k (λ command. true) (λ (s : S). true) sent passes txn_type amount ones s refl
+      legality_lem k (λ command. true) (λ (s : S). Unit {0}) sent passes txn_type amount ones s tt
 
   pub transaction_carries : FallingCounts k → (txn_type amount : ℕ) (ones : List Ready) (s : S) (d : Direct) (images : ℕ → Image) (ends : ℕ)
       → length d.log + log_bound (k.restarts s) (length ones) (k.commands s) ≤ d.room → 1 + k.restarts s ≤ ends → images d.image.number ≡ d.image → IsShortImage d.image

@@ -14,7 +14,7 @@ ghost use Rattle.ep_base.specs.Transport.{EventSteps, TransportSteps};
 ghost use Rattle.law_run.specs.Bounds.{AtMost, AtMostStarts, FewApdus, log_bound};
 ghost use Rattle.law_run.specs.CandidateFacts.{IsCandidate};
 ghost use Rattle.law_run.specs.Heard.{Hearing};
-ghost use Rattle.law_run.specs.Legality.{Legality, ScriptsSendCommands};
+ghost use Rattle.law_run.specs.Legality.{Legal, ScriptedLegal};
 ghost use Rattle.law_run.specs.OverPerfect.{OverPerfect, TransactionOverPerfect};
 ghost use Rattle.law_run.specs.ScriptCounts.{ScriptsBound};
 ghost use Rattle.law_run.specs.StartB.{OneStart};
@@ -95,10 +95,10 @@ pub fn scripts_fall()
 /// A transaction sends commands alone, and these to a card that was found and not closed, where its kernels send
 /// commands alone.
 pub fn sends_commands<S>()
-    ensures { (k : KernelSteps S) → Legality k }
+    ensures { (k : KernelSteps S) → Legal k }
 {}
 
-/// Kernels that follow scripts send commands alone, where all steps are commands.
+/// So does one whose kernels follow scripts, where all their steps are commands.
 pub fn scripts_send_commands()
-    ensures { ScriptsSendCommands }
+    ensures { ScriptedLegal }
 {}

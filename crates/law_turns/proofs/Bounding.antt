@@ -15,7 +15,7 @@ use Rattle.ep_base.specs.Kernel.{Move, Send, Done, KernelSteps}
 use Rattle.ep_base.specs.Talk.{Talk, Over, Say, say_collision, by_end, rounds}
 use Rattle.ep_base.specs.EntryPoint.{most_rounds, start_b, say_message, after_kind, after_verdict, after_move, kernel_runs, activates, given_to, selects, presented, starts, say_ready, transaction}
 use Rattle.law_run.proofs.Bounding.{few_commands_lem, few_starts_lem}
-use Rattle.law_transaction.proofs.Talking.{legal_lem}
+use Rattle.law_run.proofs.Legal.{legal_lem}
 use Rattle.law_turns.specs.Counting.{rounds_left, AtMostRounds, TransactionsAreBounded}
 
 -- a Start B with all of its rounds left

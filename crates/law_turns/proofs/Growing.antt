@@ -11,7 +11,7 @@ use Rattle.ep_base.specs.Talk.{Talk}
 use Rattle.law_run.specs.Bounds.{log_bound}
 use Rattle.law_run.proofs.Bounding.{few_commands_lem, few_starts_lem}
 use Rattle.law_run.proofs.Scripting.{scripts_fall_lem}
-use Rattle.law_transaction.proofs.Talking.{scripted_lem}
+use Rattle.law_run.proofs.Legal.{scripted_lem}
 use Rattle.law_lane.specs.Standing.{started}
 use Rattle.law_lane.proofs.Moving.{times_more}
 use Rattle.law_turns.specs.LaneText.{Job}

@@ -8,7 +8,7 @@ use Rattle.ep_base.specs.KernelCounts.{FallingCounts}
 use Rattle.ep_base.specs.EntryPoint.{most_rounds, transaction}
 use Rattle.ep_base.specs.Talk.{Talk, Over, Say, Poll, Command, Close, IsLegal}
 use Rattle.law_run.specs.Bounds.{AtMost, AtMostStarts, log_bound}
-use Rattle.law_transaction.specs.Legal.{SendsCommands}
+use Rattle.ep_base.specs.KernelCommands.{SendsCommands}
 use Rattle.law_lane.specs.Standing.{Standing, started, asked_by, after_hearing}
 
 -- The rounds that are left of a Start B after one of them; where a card is found the next Start B has all of its own (this project's profile).

@@ -5,7 +5,7 @@ use Rattle.ep_base.specs.Kernel.{Scripted, scripted}
 use Rattle.ep_base.specs.PreProcessing.{Ready}
 use Rattle.ep_base.specs.Talk.{Talk}
 use Rattle.law_run.specs.Bounds.{log_bound}
-use Rattle.law_transaction.specs.Legal.{ScriptedSends}
+use Rattle.ep_base.specs.KernelCommands.{ScriptedSends}
 use Rattle.law_turns.specs.LaneText.{Job}
 use Rattle.law_turns.specs.WholeRun.{ProbeSteps, run_after}
 use Rattle.law_turns.specs.Counting.{exchanges_most}

@@ -2,14 +2,14 @@
 use Rattle.std.specs.Prelude.{◌≡◌, ℕ, ◌+◌, Bool, false, List, [], ◌∷◌, ◌++◌, None}
 use Rattle.ep_base.specs.Hearing.{Activated, RoundEnd}
 use Rattle.ep_base.specs.CardAnswer.{Image}
-use Rattle.ep_base.specs.Course.{ends_of}
+use Rattle.ep_base.specs.Talk.{ends_of}
 use Rattle.ep_base.specs.Direct.{image_rules}
 use Rattle.ep_base.specs.Field.{Field}
 use Rattle.ep_base.specs.Perfect.{perfect, channel}
 use Rattle.ep_base.specs.Radio.{Radio}
 use Rattle.ep_base.specs.TransportRun.{HearEnd}
 use Rattle.law_radio.specs.OverRadio.{IsNew, IsCarried, Keeps}
-use Rattle.law_radio.specs.Courses.{ClosesFound}
+use Rattle.law_radio.specs.Closings.{ClosesFound}
 use Rattle.law_lane.specs.Standing.{Stopped}
 use Rattle.law_turns.specs.LaneText.{Job}
 use Rattle.law_turns.specs.Telling.{job_after, IsOverAt, whole_text, AreTold}

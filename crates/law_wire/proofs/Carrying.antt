@@ -11,10 +11,9 @@ use Rattle.ep_base.specs.Block.{Block, Heard, other, is_bad, count}
 use Rattle.ep_base.specs.Parts.{cut}
 use Rattle.ep_base.specs.CardAnswer as Images
 use Rattle.ep_base.specs.CardAnswer.{IsAnswer, card_answer}
-use Rattle.ep_base.specs.CardEnd.{Image, Card, Answer, Parts, card_hears, is_halted}
+use Rattle.ep_base.specs.CardEnd.{Image, Card, Answer, Parts, card_hears, is_halted, records, unlogged}
 use Rattle.ep_base.specs.ReaderEnd.{Reader, Turn, Asks, Gives, Spends, Breaks, Sending, asked, reader_hears, begin}
 use Rattle.ep_base.specs.Link.{goes_down, comes_up}
-use Rattle.ep_base.specs.BlockField.{records, unlogged}
 use Rattle.ep_base.specs.Spelling.{spelled}
 use Rattle.ep_base.specs.LinkFrames.{LinkSetting, heard_block}
 use Rattle.ep_base.specs.Wire.{Heeded, Wire, wire, wire_heeds, moved, unmoved, answers_by, takes_block, maybe_frame, aired, comes_back, by_commands, image_after}
@@ -22,9 +21,9 @@ use Rattle.ep_base.specs.Carry.{SendsBlock, GoesOn, Follows, AtRest, OfLink, AtM
 use Rattle.law_link.specs.Once.{IsImage, AreFrames, IsIdle}
 use Rattle.law_link.proofs.Exchange.{Place, Before, reader_at, card_at, Fine, Fits, GoodTurn, Keeps, log_at, taken, exchange, keeps}
 use Rattle.law_link.proofs.Cutting.{cut_joins}
-use Rattle.law_transaction.proofs.Imaging.{answer_is, linked_image}
 use Rattle.law_wire.proofs.Reading.{Sent, sent_block}
 use Rattle.law_wire.proofs.Passing.{MaySend, went, down_law, up_law, next_legs, next_pass, takes_passed, hears_passed}
+use Rattle.law_wire.proofs.Limits.{answer_is, linked_image}
 use Rattle.law_wire.proofs.Imaging.{Shifted, shifted, after_after, number_after, records_append}
 use Rattle.law_wire.proofs.Placing.{asked_sent, answer_sent}
 

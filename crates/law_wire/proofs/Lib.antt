@@ -1,7 +1,7 @@
 pub mod Alike
 pub mod Carrying
 pub mod Imaging
+pub mod Limits
 pub mod Passing
 pub mod Placing
 pub mod Reading
-pub mod Recording

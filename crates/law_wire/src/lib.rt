@@ -6,7 +6,6 @@
 
 ghost use Rattle.ep_base.specs.Carry.{CarriedOnce};
 ghost use Rattle.law_wire.specs.Alike.{CarriedAlike};
-ghost use Rattle.law_wire.specs.Once.{RecordedOnce};
 ghost use Rattle.law_wire.specs.Whole.{ClosesQuietly, HeardWhole, NothingIsBad, ReadAsSpelled, TakenWhole};
 
 use rf_frame::Medium;
@@ -44,9 +43,4 @@ pub fn carried_once()
 /// The same over any medium that carries the link's blocks as a wire does, which its good states show, and stays good.
 pub fn carried_alike<M: Medium>()
     ensures { CarriedAlike M.steps }
-{}
-
-/// The same in numbers: a command adds one record to the log at most, and just one where it is answered.
-pub fn recorded_once()
-    ensures { RecordedOnce }
 {}

@@ -8,7 +8,7 @@ use Rattle.ep_base.specs.Configuration.{Settings}
 use Rattle.ep_base.specs.Talk.{Talk}
 use Rattle.law_lane.specs.Standing.{Standing, events_of}
 use Rattle.law_run.specs.Bounds.{apdus}
-use Rattle.law_transaction.specs.Legal.{ScriptedSends}
+use Rattle.ep_base.specs.KernelCommands.{ScriptedSends}
 use Rattle.entry_session.specs.Turns.{View, StandsFor, view_of}
 use Rattle.entry_session.specs.declared.holding.Session.{Session}
 use Rattle.kernel_port.specs.Scripts.{scripted_of}

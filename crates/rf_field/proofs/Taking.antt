@@ -5,9 +5,8 @@ use Rattle.ep_base.specs.declared.air.CardKind.{CardKind}
 use Rattle.ep_base.specs.Hearing.{Framed, wave_of_kind}
 use Rattle.ep_base.specs.Block.{Block}
 use Rattle.ep_base.specs.Spelling.{Read, Reads, Refuses, read_block}
-use Rattle.ep_base.specs.BlockField.{records}
 use Rattle.ep_base.specs.CardAnswer.{Image, card_answer}
-use Rattle.ep_base.specs.CardEnd.{Card, card_hears, answers, is_halted}
+use Rattle.ep_base.specs.CardEnd.{Card, card_hears, answers, is_halted, records}
 use Rattle.ep_base.specs.CardEnd as Ends
 use Rattle.ep_base.specs.Wire.{Heeded, unmoved, by_commands, image_after, maybe_frame, answers_by, takes_read, takes_opened}
 use Rattle.ep_base.specs.Wire as plain

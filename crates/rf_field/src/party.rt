@@ -1,9 +1,8 @@
 //! A card in the block protocol.
 ghost use Rattle.std.specs.Prelude.{◌≡◌, ◌<◌, ◌≤◌, ◌++◌, length};
 ghost use Rattle.std.specs.Option.{option_copied, option_map};
-ghost use Rattle.ep_base.specs.BlockField.{fresh_card};
 ghost use Rattle.ep_base.specs.CardAnswer.{deselected};
-ghost use Rattle.ep_base.specs.CardEnd.{is_halted};
+ghost use Rattle.ep_base.specs.CardEnd.{is_halted, fresh_card};
 ghost use Rattle.ep_base.specs.Field.{opens_link};
 ghost use Rattle.ep_base.specs.Hearing.{wave_of_kind};
 ghost use Rattle.ep_base.specs.Wire.{takes_frame};

@@ -1,12 +1,10 @@
 -- The scripts of a document that is accepted: their lengths and their commands.
-use Rattle.std.proofs.Common.{◌≡◌, ◌≤◌, List, [], ◌∷◌, length, codes, true, Ok, refl, subst, arith}
+use Rattle.std.proofs.Common.{◌≡◌, ◌≤◌, List, [], ◌∷◌, length, codes, true, Ok, subst, arith}
 use Rattle.std.specs.Prelude.{All}
-use Rattle.std.specs.List.{list_all}
 use Rattle.std.proofs.lemmas.List.Elements.{All-nil, All-head, All-tail}
 use Rattle.ep_base.specs.Apdu.{is_command}
 use Rattle.ep_base.specs.Kernel.{Step, Script, no_verdict}
-use Rattle.law_run.specs.Legality.{are_commands}
-use Rattle.law_transaction.specs.Legal.{StepsSend, ScriptsSend}
+use Rattle.ep_base.specs.KernelCommands.{StepsSend, ScriptsSend}
 use Rattle.doc_table.specs.declared.list.ElementKind.TheVariants as elements
 use Rattle.doc_table.specs.Read.{Place, list_of, integer_in, byte_text, bytes_that, table_of, required, defaulted}
 use Rattle.doc_table.proofs.Accepted.{Accepts, after, accepted_bytes_that, accepted_required, accepted_defaulted, accepted_list}
@@ -68,14 +66,6 @@ scripts_send : (scripts : List Script) → All IsRight scripts → ScriptsSend s
 scripts_send [] all = tt
 scripts_send (s ∷ scripts) all = (steps_send s.steps (All-head IsRight s scripts all).sends, scripts_send scripts (All-tail IsRight s scripts all))
 
-steps_pass : (steps : List Step) → All IsSending steps → are_commands steps ≡ true
-steps_pass [] all = refl
-steps_pass (x ∷ steps) all = rw (All-head IsSending x steps all, steps_pass steps (All-tail IsSending x steps all))
-
-scripts_pass : (scripts : List Script) → All IsRight scripts → list_all (λ (x : Script). are_commands x.steps) scripts ≡ true
-scripts_pass [] all = refl
-scripts_pass (s ∷ scripts) all = rw (steps_pass s.steps (All-head IsRight s scripts all).sends, scripts_pass scripts (All-tail IsRight s scripts all))
-
 scripts_short : (scripts : List Script) → All IsRight scripts → All (λ (s : Script). length s.steps ≤ 16) scripts
 scripts_short scripts all k d lt = (all k d lt).short
 
@@ -84,7 +74,6 @@ are_scripts scripts few all = record {
   few = few;
   short = scripts_short scripts all;
   sends = (scripts_send scripts all, tt);
-  commands = rw (scripts_pass scripts all) refl;
 }
 
 -- What a transaction's table says of its scripts is within the limits.

@@ -1,9 +1,8 @@
 -- Scripts of kernels, and their tables (this project's own).
-use Rattle.std.specs.Prelude.{codes, ℕ, ◌+◌, ◌*◌, ◌≤◌, List, [], ◌∷◌, length, slice_index, All, ◌≡◌, true, None, Result, Ok}
+use Rattle.std.specs.Prelude.{codes, ℕ, ◌+◌, ◌*◌, ◌≤◌, List, [], ◌∷◌, length, slice_index, All, None, Result, Ok}
 use Rattle.ep_base.specs.Apdu.{is_command}
 use Rattle.ep_base.specs.Kernel.{Step, Script, no_verdict}
-use Rattle.law_run.specs.Legality.{scripts_commands}
-use Rattle.law_transaction.specs.Legal.{ScriptedSends}
+use Rattle.ep_base.specs.KernelCommands.{ScriptedSends}
 use Rattle.doc_table.specs.Fault.{Fault}
 use Rattle.doc_table.specs.declared.list.ElementKind.TheVariants as elements
 use Rattle.doc_table.specs.Read.{◌>>=◌, Reader, Place, table_of, required, defaulted, integer_in, byte_text, bytes_that, list_of}
@@ -54,4 +53,3 @@ pub record AreScripts (scripts : List Script) : Type 0 where
   pub few : length scripts ≤ 4
   pub short : All (λ (s : Script). length s.steps ≤ 16) scripts
   pub sends : ScriptedSends (record { scripts = scripts; running = None })
-  pub commands : scripts_commands (record { scripts = scripts; running = None }) ≡ true

@@ -1,5 +1,5 @@
-use Rattle.law_run.proofs.Legal.{scripts_send_lem}
+use Rattle.law_run.proofs.Legal.{scripted_lem}
 use Rattle.law_run.proofs.scripts_send_commands.Goals as goal
 
 pub returns : goal.returns
-returns c = scripts_send_lem
+returns c = scripted_lem

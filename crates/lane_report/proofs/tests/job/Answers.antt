@@ -3,7 +3,7 @@ use Rattle.std.specs.Prelude.{None}
 use Rattle.std.proofs.lemmas.List.Elements.{All-nil}
 use Rattle.ep_base.specs.Configuration.{Settings, AreCombinations, count_of}
 use Rattle.ep_base.specs.Kernel.{Script, Scripted}
-use Rattle.law_transaction.specs.Legal.{ScriptedSends}
+use Rattle.ep_base.specs.KernelCommands.{ScriptedSends}
 use Rattle.scenario.specs.Scene.{Work}
 use Rattle.lane_report.specs.Reports.{IsFew}
 use Rattle.lane_report.proofs.tests.job.Goals as goal

@@ -9,9 +9,39 @@ use Rattle.ep_base.specs.Hearing.{Activated}
 use Rattle.ep_base.specs.Apdu.{same_bytes, is_command, command_data, ppse_name, is_9000}
 use Rattle.ep_base.specs.CardAnswer.{Answered, Answers, Rule, App, Image, IsResponse, AreAnswers, IsRule, IsApp, IsImage, IsAnswer, used_once, file_not_found, is_select, app_answer, app_selected, by_app, by_place, select_answer, ppse_answer, rule_used, app_with, by_rule, by_rule_place, app_executes, with_app, in_app, other_answer, card_answer}
 use Rattle.ep_base.specs.Direct.{image_rules}
-use Rattle.law_transaction.specs.Documents.{LinkedImage}
-use Rattle.law_transaction.proofs.Keeping.{Keeps}
-use Rattle.law_transaction.proofs.Agreeing.{is_image}
+use Rattle.ep_base.specs.Images.{Rules, unasked, answered, image_from}
+use Rattle.law_link.specs.Once as Links
+
+-- rules whose states keep a fact under which every answer fits
+pub record Keeps {S : Type 0} (rules : Rules S) (Good : S → Type 0) : Type 0 where
+  pub commands : (command : List ℕ) → rules.is_command command ≡ true → length command ≤ 261
+  pub responses : (n : ℕ) (s : S) (command : List ℕ) → Good s → (2 ≤ length (rules.answers n s command).0.response) × (length (rules.answers n s command).0.response ≤ 258)
+  pub waits : (n : ℕ) (s : S) (command : List ℕ) → Good s → (rules.answers n s command).0.wtx ≤ 8
+  pub stays : (n : ℕ) (s : S) (command : List ℕ) → Good s → Good (rules.answers n s command).1
+  pub clears : (s : S) → Good s → Good (rules.deselected s)
+
+module _ {S : Type 0} (rules : Rules S) (Good : S → Type 0) (are : Keeps rules Good) where
+  -- every answer of a card fits, and its state stays good
+  record Fine (a : Answered × S) : Type 0 where
+    two : 2 ≤ length a.0.response
+    room : length a.0.response ≤ 258
+    few : a.0.wtx ≤ 8
+    good : Good a.1
+
+  all_fine : (n : ℕ) (a : Answered × S) (commands : List (List ℕ)) → Fine a → Fine (answered rules n a commands)
+  all_fine n a [] fine = fine
+  all_fine n a (c ∷ commands) fine =
+      all_fine n (rules.answers n a.1 c) commands (record { two = (are.responses n a.1 c fine.good).0; room = (are.responses n a.1 c fine.good).1; few = are.waits n a.1 c fine.good; good = are.stays n a.1 c fine.good })
+
+  fine_from : (n : ℕ) (s : S) (commands : List (List ℕ)) → Good s → Fine (answered rules n (unasked, s) commands)
+  fine_from n s commands good = all_fine n (unasked, s) commands (record { two = omega arith; room = omega arith; few = omega arith; good = good })
+
+  is_image : (n : ℕ) (s : S) → Good s → Links.IsImage (image_from rules n s)
+  is_image n s good = record {
+    commands = are.commands;
+    responses = λ log. ((fine_from n s log good).two, (fine_from n s log good).room);
+    waits = λ log. (fine_from n s log good).few;
+  }
 
 -- an element at a place
 element : {X : Type 0} (P : X → Type 0) (xs : List X) (n : ℕ) (x : X) → All P xs → slice_get xs n ≡ Some x → P x
@@ -180,8 +210,8 @@ images_keep number_of = record {
   waits = λ n i command w. (answer_fits i w command).waits;
   stays = λ n i command w. (answer_fits i w command).within;
   clears = λ i w. cleared_keeps i w;
-  once = λ i. refl;
 }
 
-pub linked_image : LinkedImage
+-- such an image is one that a link carries
+pub linked_image : (number_of : Activated → ℕ) (n : ℕ) (i : Image) → IsImage i → Links.IsImage (image_from (image_rules number_of) n i)
 linked_image number_of n i w = is_image (image_rules number_of) IsImage (images_keep number_of) n i w

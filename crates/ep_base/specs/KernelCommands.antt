@@ -1,12 +1,9 @@
--- Talks that send commands alone, and these to a card that was found and not closed.
-use Rattle.std.specs.Prelude.{◌≡◌, ℕ, true, false, List, [], ◌∷◌, Some, None}
+-- Kernels that send commands alone (this project's own).
+use Rattle.std.specs.Prelude.{◌≡◌, true, List, [], ◌∷◌, ℕ, Some, None}
 use Rattle.std.specs.declared.option.Option.{Option}
 use Rattle.ep_base.specs.Apdu.{is_command}
-use Rattle.ep_base.specs.PreProcessing.{Ready}
 use Rattle.ep_base.specs.Said.{Given}
-use Rattle.ep_base.specs.Kernel.{Move, Send, Done, KernelSteps, Step, Script, Running, Scripted, scripted}
-use Rattle.ep_base.specs.Talk.{IsLegal}
-use Rattle.ep_base.specs.EntryPoint.{transaction}
+use Rattle.ep_base.specs.Kernel.{Move, Send, Done, KernelSteps, Step, Script, Running, Scripted}
 
 -- What a kernel sends is a command.
 abbrev pub IsSent : Move → Type 0
@@ -28,10 +25,6 @@ called k s ((Steps last) ∷ calls) = called k (k.step s last).1 calls
 abbrev pub SendsCommands : {S : Type 0} → KernelSteps S → S → Type 0
 SendsCommands k s = (calls : List Call) (last : Option (List ℕ)) → IsSent (k.step (called k s calls) last).0
 
--- Then the transaction of Entry Point with this kernel is a legal talk.
-abbrev pub Legal : {S : Type 0} → KernelSteps S → Type 0
-Legal k = (txn_type amount : ℕ) (ones : List Ready) (s : _) → SendsCommands k s → IsLegal is_command false (transaction k txn_type amount ones s)
-
 -- The steps of these scripts send commands.
 abbrev pub StepsSend : List Step → Type 0
 StepsSend [] = Unit {0}
@@ -47,7 +40,3 @@ RunningSends (Some r) = StepsSend r.steps
 
 abbrev pub ScriptedSends : Scripted → Type 0
 ScriptedSends s = ScriptsSend s.scripts × RunningSends s.running
-
--- Then the transaction with kernels that follow them is a legal talk.
-abbrev pub ScriptedLegal : Type 0
-ScriptedLegal = (txn_type amount : ℕ) (ones : List Ready) (s : Scripted) → ScriptedSends s → IsLegal is_command false (transaction scripted txn_type amount ones s)
