@@ -10,7 +10,7 @@ use Rattle.toml.specs.Data.{Data, Items, no_items, item, as_integer, as_str, as_
 use Rattle.doc_table.specs.declared.list.ElementKind.{ElementKind}
 use Rattle.doc_table.specs.Fault.{Fault}
 use Rattle.doc_table.specs.Path.{key_path, element_path}
-use Rattle.doc_table.specs.Read.{◌>>=◌, Reader, Place, is_within, within, integer_in, allowed, of_kind, spelled, bytes_that, byte_text, if_there, optional, wanted, required, defaulted, item_count, array_of, counted, items_of_kind, each, list_of, only, only_of}
+use Rattle.doc_table.specs.Read.{◌>>=◌, Reader, Place, is_within, within, integer_in, allowed, of_kind, spelled, bytes_that, byte_text, if_there, optional, wanted, required, defaulted, item_count, array_of, counted, items_of_kind, each, list_of}
 
 -- What a reader accepts has this property.
 pub record Accepts {A : Type 0} (read : Reader A) (P : A → Type 0) : Type 0 where
@@ -124,11 +124,4 @@ accepted_list kind least most read P h = record {
       let each_is = accepted_each read P path 1 ds xs h all in
       let count : (least ≤ item_count ds) × (item_count ds ≤ most) = after (array_of kind path d) _ ds counts (λ found _ is. counted_within least most path found ds is) in
       record { each = each_is.0; least = omega (arith, each_is.1, count.0); most = omega (arith, each_is.1, count.1) });
-}
-
-pub accepted_only : {A : Type 0} (kind : ElementKind) (least most : ℕ) (read : Reader A) (P : A → Type 0) → Accepts read P → Accepts (only_of kind least most read) P
-accepted_only kind least most read P h = record {
-  is = λ path d x e.
-      after (items_of_kind kind least most path d) _ x e (λ ds _ e1.
-      after (only path ds) _ x e1 (λ one _ e2. h.is (element_path path 1) one x e2));
 }

@@ -6,7 +6,7 @@ use Rattle.hex.specs.Hex.{decode_of}
 use Rattle.hex.specs.declared.error.FromHexError.{FromHexError}
 use Rattle.toml.specs.Data.{Data, table, Items, no_items, item, Members, no_members, member, get_member, as_integer, as_str, as_bool, as_array, as_table}
 use Rattle.doc_table.specs.declared.fault.DocKind.{DocKind}
-use Rattle.doc_table.specs.declared.fault.DocKind.TheVariants.{UnknownKey, Missing, WrongKind, BadValue, TooMany, NotBuilt}
+use Rattle.doc_table.specs.declared.fault.DocKind.TheVariants.{UnknownKey, Missing, WrongKind, BadValue, TooMany}
 use Rattle.doc_table.specs.declared.fault.TableEnd.{TableEnd}
 use Rattle.doc_table.specs.declared.fault.TableEnd.TheVariants.{NoMemory}
 use Rattle.doc_table.specs.declared.fault.TableEnd.TheVariants as ends
@@ -137,14 +137,6 @@ defaulted x read key place = do
   found ← optional read key place
   Ok (unwrap_or found x)
 
-abbrev pub absent : List ℕ → Option Data → Result (Unit {0}) Fault
-absent path None = Ok tt
-absent path (Some d) = fails NotBuilt path (pos 0)
-
--- nothing at a key that isn't built yet
-abbrev pub unbuilt : List ℕ → Place → Result (Unit {0}) Fault
-unbuilt key place = absent (key_path place.path key) (get_member key place.members)
-
 abbrev pub item_count : Items → ℕ
 item_count no_items = 0
 item_count (item d ds) = 1 + item_count ds
@@ -196,15 +188,3 @@ abbrev pub list_of : {A : Type 0} → ElementKind → ℕ → ℕ → Reader A �
 list_of kind least most read path d = do
   ds ← items_of_kind kind least most path d
   each read path 1 ds
-
--- the one element of a list of which no other length is built yet
-abbrev pub only : List ℕ → Items → Result Data Fault
-only path (item d no_items) = Ok d
-only path ds = fails NotBuilt path (pos (item_count ds))
-
--- an array of least to most elements of a kind, of which no other length than one is built yet: its one element
-abbrev pub only_of : {A : Type 0} → ElementKind → ℕ → ℕ → Reader A → Reader A
-only_of kind least most read path d = do
-  ds ← items_of_kind kind least most path d
-  one ← only path ds
-  read (element_path path 1) one

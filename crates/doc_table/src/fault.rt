@@ -16,7 +16,6 @@ pub enum DocKind {
     BadValue,
     TooMany,
     Conflict,
-    NotBuilt,
 }
 
 /// A fault, its place, and a number that tells more.

@@ -10,9 +10,9 @@ mod section;
 mod value;
 
 pub use fault::{DocFault, DocKind, TableEnd};
-pub use list::{ElementKind, all_of, counted, items_of_kind, only};
+pub use list::{ElementKind, all_of, counted, items_of_kind};
 pub use order::in_byte_order;
 pub use path::Path;
-pub use reader::{ListOf, OnlyOne, Read, each};
+pub use reader::{ListOf, Read, each};
 pub use section::Section;
 pub use value::{byte_text, integer_in, sized, table_in, truth};

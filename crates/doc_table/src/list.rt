@@ -1,7 +1,7 @@
 //! Arrays, by the kind of their elements and their length.
 ghost use Rattle.std.specs.Prelude.{◌≡◌, ◌≤◌, length, IfOk};
 ghost use Rattle.toml.specs.View.{view, items_view};
-ghost use Rattle.doc_table.specs.Read.{Gives, is_of, all_items, array_of, counted, only, items_of_kind};
+ghost use Rattle.doc_table.specs.Read.{Gives, is_of, all_items, array_of, counted, items_of_kind};
 
 use crate::fault::{DocFault, DocKind};
 use crate::path::Path;
@@ -93,16 +93,4 @@ pub fn items_of_kind<'a>(
     ensures few { IfOk result (λ vs. length vs.now ≤ most) }
 {
     counted(path, array_of(path, value, kind)?, least, most)
-}
-
-/// The one value of a list of which no other length is built yet.
-#[tactic(auto, using(crate::proofs::Counts::only_rules))]
-pub fn only<'a>(path: &Path, values: &'a [Value]) -> Result<&'a Value, DocFault>
-    ensures { Gives (λ v. view v.now) result (only path.now (items_view values.now)) }
-{
-    let count = values.len();
-    if count != 1 {
-        return Err(path.fault(DocKind::NotBuilt, count as i64));
-    }
-    Ok(&values[0])
 }

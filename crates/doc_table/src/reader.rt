@@ -4,10 +4,10 @@ ghost use Rattle.toml.specs.Data.{Data};
 ghost use Rattle.toml.specs.View.{view, items_view};
 ghost use Rattle.doc_table.specs.declared.list.ElementKind.TheVariants.{Table, Text};
 ghost use Rattle.doc_table.specs.Fault.{Fault};
-ghost use Rattle.doc_table.specs.Read.{GivesIfRoom, each, list_of, only_of};
+ghost use Rattle.doc_table.specs.Read.{GivesIfRoom, each, list_of};
 
 use crate::fault::TableEnd;
-use crate::list::{ElementKind, items_of_kind, only};
+use crate::list::{ElementKind, items_of_kind};
 use crate::path::Path;
 use std::alloc::Global;
 use toml::Value;
@@ -114,31 +114,5 @@ impl<R: Read> Read for ListOf<R> {
     fn read(&self, alloc: Global, path: &Path, value: &Value) -> Result<Vec<R::Out>, TableEnd> {
         let values = items_of_kind(path, value, self.kind, self.least, self.most)?;
         each(alloc, path, values, &self.of)
-    }
-}
-
-/// Reads the one element of an array of which no other length is built yet.
-#[derive(Drop)]
-pub struct OnlyOne<R> {
-    /// What reads the whole array.
-    pub list: ListOf<R>,
-}
-
-impl<R: Read> Read for OnlyOne<R> {
-    type Out = R::Out;
-
-    ghost Meaning = { R.Meaning };
-
-    ghost seen = { R.seen };
-
-    ghost reads = { λ o. only_of o.list.kind o.list.least o.list.most (R.reads o.list.of) };
-
-    ghost room = { 7 + R.room };
-
-    fn read(&self, alloc: Global, path: &Path, value: &Value) -> Result<R::Out, TableEnd> {
-        let list = &self.list;
-        let values = items_of_kind(path, value, list.kind, list.least, list.most)?;
-        let one = only(path, values)?;
-        list.of.read(alloc, &path.element(1), one)
     }
 }

@@ -5,7 +5,7 @@ ghost use Rattle.std.specs.Cmp.Lexicographic.{pointwise};
 ghost use Rattle.std.specs.Prelude.{nat_eq};
 ghost use Rattle.toml.specs.Data.{get_member};
 ghost use Rattle.toml.specs.View.{view, table_view};
-ghost use Rattle.doc_table.specs.Read.{Gives, GivesIfRoom, table_of, unbuilt, optional, required, defaulted, integer_in, truth, byte_text, place_of, first_unknown};
+ghost use Rattle.doc_table.specs.Read.{Gives, GivesIfRoom, table_of, optional, required, defaulted, integer_in, truth, byte_text, place_of, first_unknown};
 ghost use Rattle.doc_table.specs.Path.{key_path, shown};
 ghost use Rattle.doc_table.specs.declared.fault.DocKind.TheVariants.{Missing};
 ghost use Rattle.doc_table.specs.Section.{place};
@@ -198,17 +198,6 @@ impl Section<'_> {
         match self.optional(alloc, key, reader)? {
             Some(found) => Ok(found),
             None => Err(TableEnd::Fault(self.missing(key))),
-        }
-    }
-
-    /// Nothing at a key that isn't built yet.
-    pub fn unbuilt(&self, key: &str) -> Result<(), DocFault>
-        requires { length self.now.path.now + length key.now < 96 }
-        ensures { result ≡ unbuilt key.now (place self.now) }
-    {
-        match value_at(self.table, key) {
-            None => Ok(()),
-            Some(_) => Err(self.fault(key, DocKind::NotBuilt, 0)),
         }
     }
 

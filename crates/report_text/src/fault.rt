@@ -34,6 +34,5 @@ fn fault_word(kind: DocKind) -> &'static str
         DocKind::BadValue => "bad-value",
         DocKind::TooMany => "too-many",
         DocKind::Conflict => "conflict",
-        DocKind::NotBuilt => "not-built",
     }
 }

@@ -269,10 +269,10 @@ fn faults_of_documents(rt: HostRuntime) {
             "conflict at turns[2] (-1)",
         ),
         (
-            DocKind::NotBuilt,
+            DocKind::Conflict,
             "updates",
             i64::MIN,
-            "not-built at updates (-9223372036854775808)",
+            "conflict at updates (-9223372036854775808)",
         ),
     ];
     for (kind, path, number, want) in cases {
