@@ -34,11 +34,11 @@ impl MemorySource {
 }
 
 impl Source for MemorySource {
-    ghost use Rattle.std.specs.Prelude.{◌≡◌, ◌<◌, ◌↔◌, ℕ, true, drop, length, Some};
+    ghost use Rattle.std.specs.Prelude.{◌≡◌, ◌<◌, ◌↔◌, ℕ, min, true, drop, length, Some};
     ghost use Rattle.std.specs.declared.option.Option.{Option};
     ghost use Rattle.ep_base.specs.Causes.{HasCause};
     ghost use Rattle.ep_base.specs.Io.{Pulls, GotWithin};
-    ghost use Rattle.ep_base.specs.Memory.{bytes_left, is_listed};
+    ghost use Rattle.ep_base.specs.Memory.{GaveAll, bytes_left, is_listed, next_call};
 
     ghost left = { λ s. Option.Some (drop s.at s.bytes.items) };
 
@@ -50,6 +50,9 @@ impl Source for MemorySource {
         ensures bytes { Pulls (Option.Some (bytes_left self.old)) (Option.Some (bytes_left self.new)) result into.new }
         ensures cause { HasCause self.old.faults self.new.faults (result ≡ Pulled.Failed) }
         ensures listed { (result ≡ Pulled.Failed) ↔ (is_listed self.old.fails.items self.old.calls ≡ true) }
+        ensures amount { GaveAll result (min (length into.old) (length (bytes_left self.old))) }
+        ensures calls { self.new.calls ≡ next_call self.old.calls }
+        ensures same { self.new.fails.items ≡ self.old.fails.items }
     {
         self.calls = self.calls.saturating_add(1);
         if self.fails.contains(&self.calls) {
@@ -114,7 +117,7 @@ impl Sink for MemorySink {
     ghost use Rattle.std.specs.declared.option.Option.{Option};
     ghost use Rattle.ep_base.specs.Causes.{HasCause};
     ghost use Rattle.ep_base.specs.Io.{Pushes, TookWithin};
-    ghost use Rattle.ep_base.specs.Memory.{bytes_held, sink_refuses};
+    ghost use Rattle.ep_base.specs.Memory.{bytes_held, next_call, sink_refuses};
 
     ghost written = { λ s. Option.Some s.held.items };
 
@@ -126,6 +129,8 @@ impl Sink for MemorySink {
         ensures cause { HasCause self.old.faults self.new.faults (IsErr result) }
         ensures whole { IfOk result (λ n. n ≡ length piece.now) }
         ensures refused { IsErr result ↔ (sink_refuses self.old (length piece.now) ≡ true) }
+        ensures calls { self.new.calls ≡ next_call self.old.calls }
+        ensures same { (self.new.fails.items ≡ self.old.fails.items) × (self.new.room ≡ self.old.room) }
     {
         self.calls = self.calls.saturating_add(1);
         let refused = self.fails.contains(&self.calls) || piece.len() > self.room - self.held.len();

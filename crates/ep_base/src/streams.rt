@@ -3,8 +3,9 @@ ghost use Rattle.std.specs.Prelude.{◌≡◌, ◌<◌, ◌≤◌, ℕ, List, le
 ghost use Rattle.std.specs.declared.option.Option.{Option};
 ghost use Rattle.std.specs.Io.KnownBytes.{Appends, Consumes, IsAtEnd};
 ghost use Rattle.ep_base.specs.Causes.{HasCause};
-ghost use Rattle.ep_base.specs.Io.{Pulls, GotWithin, Pushes, TookWithin, AppendsPrefix};
+ghost use Rattle.ep_base.specs.Io.{Pulls, GotWithin, Pushes, TookWithin, AppendsPrefix, GaveTooMuch, Takes};
 
+use crate::limits::PIECE;
 use std::alloc::Global;
 
 /// Memory that was asked for isn't there.
@@ -71,19 +72,22 @@ pub trait Sink {
         ensures cause { HasCause (faults self.old) (faults self.new) (IsErr result) };
 }
 
-/// Reads all that is left, at most `limit` bytes.
+/// Reads all that is left, at most `limit` bytes. What is taken from the source, also before an error, is a first part of
+/// what it had left. It asks for `PIECE` bytes at a time.
 ///
-/// Errors: `ReadFault` where a pull failed, `TooLong` where more than `limit` bytes were given, `NoMemory`.
+/// Errors: `TooLong` exactly where more than `limit` bytes were given, with no pull after them; `ReadFault` only where a pull
+/// failed and the count of faults rose; `NoMemory`.
 pub fn read_all<S: Source>(alloc: Global, src: &mut S, limit: usize) -> Result<Vec<u8>, ReadEnd>
     ensures ok { IfOk result (λ v. Consumes (S.left src.old) (S.left src.new) v.items) }
     ensures whole { OnOk result (IsAtEnd (S.left src.new)) }
     ensures within { IfOk result (λ v. length v.items ≤ limit) }
     ensures short_enough { OnOk result (IfSome (S.left src.old) (λ bytes. length bytes ≤ limit)) }
     ensures too_long { IfSome (S.left src.old) (λ bytes. IsErrOf result ReadEnd.TooLong → limit < length bytes) }
+    ensures takes { Takes limit (S.left src.old) (S.left src.new) (GaveTooMuch result) }
     ensures cause { HasCause (S.faults src.old) (S.faults src.new) (IsErrOf result ReadEnd.ReadFault) }
 {
     let mut bytes = Vec::new(alloc);
-    let mut piece = [0u8; 1024];
+    let mut piece = [0u8; PIECE];
     loop {
         match src.pull(&mut piece) {
             Pulled::End => return Ok(bytes),
