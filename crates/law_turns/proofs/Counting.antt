@@ -29,7 +29,7 @@ use Rattle.law_turns.specs.Counting.{rounds_left, AtMostRounds, after_all, IsOve
 
 -- ---- a response that is given is short
 
-abbrev IsShort : Turn → Type 0
+abbrev pub IsShort : Turn → Type 0
 IsShort (Asks r) = Unit {0}
 IsShort (Gives response r) = length response ≤ 258
 IsShort (Spends r) = Unit {0}
@@ -55,7 +55,7 @@ ack_short (Sending part []) r = tt
 ack_short (Sending part (next ∷ left)) r = tt
 ack_short (Receiving got) r = tt
 
-reader_short : (frame : ℕ) (r : Reader) (h : Heard) → IsShort (reader_hears frame r h)
+pub reader_short : (frame : ℕ) (r : Reader) (h : Heard) → IsShort (reader_hears frame r h)
 reader_short frame r Bad = either IsShort (nat_lt (count is_bad (kept Bad r).since) 3) (Asks (kept Bad r)) (Spends (kept Bad r)) tt tt
 reader_short frame r Junk = tt
 reader_short frame r (Intact (I k ch inf)) = either IsShort (same k r.number) (on_i frame r.phase ch inf r) (Breaks r) (i_short frame r.phase ch inf r) tt
@@ -68,18 +68,18 @@ reader_short frame r (Intact (Wtx p m)) =
 
 -- ---- a link that is ready for a command
 
-abbrev IsReady : Option OpenLink → Type 0
+abbrev pub IsReady : Option OpenLink → Type 0
 IsReady None = Unit {0}
 IsReady (Some l) = (l.reader.since ≡ []) × (16 ≤ l.set.frames.card)
 
-abbrev HasSize : RoundEnd → Type 0
+abbrev pub HasSize : RoundEnd → Type 0
 HasSize Empty = Unit {0}
 HasSize Collision = Unit {0}
 HasSize Unsupported = Unit {0}
 HasSize Broken = Unit {0}
 HasSize (Found card) = 16 ≤ card.fsc
 
-link_ready : (fsdi : ℕ) (e : RoundEnd) → HasSize e → IsReady (link_by fsdi e)
+pub link_ready : (fsdi : ℕ) (e : RoundEnd) → HasSize e → IsReady (link_by fsdi e)
 link_ready fsdi Empty h = tt
 link_ready fsdi Collision h = tt
 link_ready fsdi Unsupported h = tt
@@ -87,7 +87,7 @@ link_ready fsdi Broken h = tt
 link_ready fsdi (Found card) h = (refl, h)
 
 -- one exchange more where a link is open, which closes it
-abbrev held : Option OpenLink → ℕ
+abbrev pub held : Option OpenLink → ℕ
 held None = 0
 held (Some l) = 1
 
@@ -128,10 +128,10 @@ module _ (fsdi : ℕ) (start : Talk) where
   any_exchange false ask h = tt
 
   -- the cards with which a round may end from here have a lawful frame size
-  abbrev Sizes : ℕ → rounds.Turn Stage → Type 0
+  abbrev pub Sizes : ℕ → rounds.Turn Stage → Type 0
   Sizes n turn = (card : Activated) → Plays untold fsdi n turn tt (Some (Found card)) tt → 16 ≤ card.fsc
 
-  sizes_next : (n : ℕ) (stage : Stage) (h : Hearing) → Sizes (suc n) (rounds.Goes stage) → Sizes n (round_hears stage h)
+  pub sizes_next : (n : ℕ) (stage : Stage) (h : Hearing) → Sizes (suc n) (rounds.Goes stage) → Sizes n (round_hears stage h)
   unfolding Plays
   sizes_next n stage h sizes = λ card x. sizes card (Some h, tt, any_exchange (round_asks fsdi stage).reset (round_asks fsdi stage) h, x)
 
@@ -140,7 +140,7 @@ module _ (fsdi : ℕ) (start : Talk) where
   at_end zero e = (refl, refl)
   at_end (suc n) e = (refl, refl)
 
-  end_sized : (n : ℕ) (e : RoundEnd) → Sizes n (rounds.Ends e) → HasSize e
+  pub end_sized : (n : ℕ) (e : RoundEnd) → Sizes n (rounds.Ends e) → HasSize e
   end_sized n Empty sizes = tt
   end_sized n Collision sizes = tt
   end_sized n Unsupported sizes = tt
@@ -211,10 +211,10 @@ module _ (fsdi : ℕ) (start : Talk) where
 
   -- ---- the talk
 
-  abbrev Wishes : List Result → Talk → Type 0
+  abbrev pub Wishes : List Result → Talk → Type 0
   Wishes results rest = (more : List Result) → (so_far start (results ++ more)).wish ≡ (so_far rest more).wish
 
-  wish_next : (results : List Result) (x : Result) (rest next : Talk) → Wishes results rest → ((more : List Result) → (so_far rest (x ∷ more)).wish ≡ (so_far next more).wish) → Wishes (results ++ x ∷ []) next
+  pub wish_next : (results : List Result) (x : Result) (rest next : Talk) → Wishes results rest → ((more : List Result) → (so_far rest (x ∷ more)).wish ≡ (so_far next more).wish) → Wishes (results ++ x ∷ []) next
   wish_next results x rest next w e = λ more. ap (λ r. (so_far start r).wish) (append_assoc results (x ∷ []) more) ∙ (w (x ∷ more) ∙ e more)
 
   by_wish : (k : ℕ) (results : List Result) (rest : Talk) (link : Option OpenLink) → Wishes results rest
@@ -223,7 +223,7 @@ module _ (fsdi : ℕ) (start : Talk) where
       subst (λ y. OverIn k (record { results = results; doing = doing_by y link })) (sym (ap (λ r. (so_far start r).wish) (sym (append-nil results)) ∙ w [])) x
 
   -- the exchanges of so many commands and Start Bs, with so many rounds left of the first
-  abbrev most : (n m left : ℕ) → ℕ
+  abbrev pub most : (n m left : ℕ) → ℕ
   most n m left = 279 * 21 * n + (705 * m - 11 * (64 - left))
 
   abbrev Ends : Talk → Type 0
@@ -236,7 +236,7 @@ module _ (fsdi : ℕ) (start : Talk) where
       let k = most n m left + held link in
       by_wish k results (Over e) link w (over_now k (record { results = results; doing = doing_by (so_far (Over e) []).wish link }) refl)
 
-  round_cost : (n m left : ℕ) (link : Option OpenLink) (e : RoundEnd) → 0 < m → 0 < left → left ≤ 64
+  pub round_cost : (n m left : ℕ) (link : Option OpenLink) (e : RoundEnd) → 0 < m → 0 < left → left ≤ 64
       → most n (starts_left m e) (rounds_left 64 left e) + held (link_by fsdi e) + 11 ≤ most n m left + held link
   round_cost n m left link Empty some any le = omega (arith, some, any, le)
   round_cost n m left link Collision some any le = omega (arith, some, any, le)
@@ -244,7 +244,7 @@ module _ (fsdi : ℕ) (start : Talk) where
   round_cost n m left link Broken some any le = omega (arith, some, any, le)
   round_cost n m left link (Found card) some any le = omega (arith, some, any, le)
 
-  rounds_fit : (left : ℕ) (e : RoundEnd) → left ≤ 64 → rounds_left 64 left e ≤ 64
+  pub rounds_fit : (left : ℕ) (e : RoundEnd) → left ≤ 64 → rounds_left 64 left e ≤ 64
   rounds_fit left Empty le = omega (arith, le)
   rounds_fit left Collision le = omega (arith, le)
   rounds_fit left Unsupported le = omega (arith, le)

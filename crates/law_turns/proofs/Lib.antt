@@ -1,11 +1,15 @@
 pub mod Apart
 pub mod Bounding
+pub mod Counted
 pub mod Counting
 pub mod Ending
 pub mod Growing
 pub mod Keeping
+pub mod Logging
+pub mod Making
 pub mod Ordering
 pub mod Owning
 pub mod Stepping
 pub mod Telling
+pub mod Worked
 pub mod Writing

@@ -1,9 +1,11 @@
 pub mod Apart
+pub mod Bounds
 pub mod Counting
 pub mod Ending
 pub mod Growing
 pub mod Keeping
 pub mod LaneText
+pub mod Logs
 pub mod Order
 pub mod Pieces
 pub mod Telling

@@ -5,10 +5,12 @@
 
 ghost use Rattle.ep_base.specs.Kernel.{KernelSteps};
 ghost use Rattle.law_turns.specs.Apart.{LanesApart, OthersStay};
+ghost use Rattle.law_turns.specs.Bounds.{AreUnderWay, BoundedCount};
 ghost use Rattle.law_turns.specs.Counting.{EveryExchangeCounts, TransactionsAreBounded};
 ghost use Rattle.law_turns.specs.Ending.{OneEnd, RunsEnd, RunsEndWithin};
 ghost use Rattle.law_turns.specs.Growing.{RunsEndInMost, RunsStay, TextsGrow};
 ghost use Rattle.law_turns.specs.Keeping.{ToldKeep};
+ghost use Rattle.law_turns.specs.Logs.{LogsFit};
 ghost use Rattle.law_turns.specs.Pieces.{PiecesAreText};
 ghost use Rattle.law_turns.specs.Telling.{KeepsInRun, RunsTell, TellsReport};
 ghost use Rattle.law_turns.specs.Turning.{TurnsAreLive};
@@ -48,6 +50,12 @@ pub fn told_keep()
     ensures { ToldKeep }
 {}
 
+/// The log of a transaction that keeps to the perfect run has at most as many records as it sends commands at most, and a
+/// record is free, after every count of exchanges, where its room is larger than that.
+pub fn logs_fit()
+    ensures { LogsFit }
+{}
+
 /// Where no trace is wanted, the text that tells a lane's transactions is the report of their events and their logs.
 pub fn tells_report()
     ensures { TellsReport }
@@ -59,6 +67,23 @@ pub fn tells_report()
 /// It sends commands alone, to a card that was found and not closed, and polls 64 rounds at most in each Start B.
 pub fn every_exchange_counts()
     ensures { EveryExchangeCounts }
+{}
+
+/// Whatever is heard, and after however many exchanges, a transaction's next one is within its bounds: with it a poll round
+/// has at most 11 exchanges, a Start B 64 rounds, and the transaction its Start Bs; a link has at most 32 since the reader's
+/// last toggle, or since it was opened, a command 280 toggles, and the transaction its commands. All its exchanges are at
+/// most those of `every_exchange_counts`.
+///
+/// It sends commands alone, to a card that was found and not closed, and polls 64 rounds at most in each Start B.
+pub fn next_exchange_fits()
+    ensures { BoundedCount }
+{}
+
+/// Each lane of a run that has an exchange left is in one of its transactions, where the exchanges that it made of it lead,
+/// by what was heard in each; whatever the order of the exchanges and whatever the probe makes of the hearings. P has the
+/// states of the probe.
+pub fn lanes_are_under_way<P>()
+    ensures { (probe : ProbeSteps P) → AreUnderWay probe }
 {}
 
 /// The transaction of Entry Point, with kernels whose counts fall and which send commands alone, is bounded so. S has the
