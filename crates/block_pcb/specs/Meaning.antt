@@ -27,3 +27,11 @@ InRange (RAck number) = number ≤ 1
 InRange (RNak number) = number ≤ 1
 InRange Deselect = Unit {0}
 InRange (Wtx power wtxm) = (power ≤ 3) × (1 ≤ wtxm) × (wtxm ≤ 59)
+
+-- A block's number, where it has one, is 0 or 1 (ISO/IEC 14443-4).
+abbrev pub IsNumbered : Block → Type 0
+IsNumbered (I number chained inf) = number ≤ 1
+IsNumbered (RAck number) = number ≤ 1
+IsNumbered (RNak number) = number ≤ 1
+IsNumbered Deselect = Unit {0}
+IsNumbered (Wtx power wtxm) = Unit {0}

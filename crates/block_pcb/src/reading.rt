@@ -1,7 +1,7 @@
 //! Blocks read from bytes.
 ghost use Rattle.std.specs.Prelude.{◌≡◌, ◌≤◌, length, IfOk};
 ghost use Rattle.ep_base.specs.Spelling.{announced, is_any as any, is_i as i_block, is_cid as cid, is_nad as nad, pcb_fault as fault_of, read_block, read_bare, read_wtx, read_wtx_byte};
-ghost use Rattle.block_pcb.specs.Meaning.{block_of, decoded_of, InRange};
+ghost use Rattle.block_pcb.specs.Meaning.{block_of, decoded_of, InRange, IsNumbered};
 
 use crate::Block;
 use ep_base::BlockFault;
@@ -65,6 +65,7 @@ fn pcb_fault(pcb: u8) -> BlockFault
 fn bare<'b>(block: Block<'b>, inf: &[u8]) -> Result<Block<'b>, BlockFault>
     ensures block { decoded_of result ≡ read_bare (block_of block.entry) inf.now }
     ensures range { InRange block.entry → IfOk result InRange }
+    ensures number { IsNumbered block.entry → IfOk result IsNumbered }
 {
     if inf.is_empty() {
         Ok(block)
@@ -77,6 +78,7 @@ fn bare<'b>(block: Block<'b>, inf: &[u8]) -> Result<Block<'b>, BlockFault>
 fn wtx<'b>(inf: &'b [u8]) -> Result<Block<'b>, BlockFault>
     ensures block { decoded_of result ≡ read_wtx inf.now }
     ensures range { IfOk result InRange }
+    ensures number { IfOk result IsNumbered }
 {
     match inf {
         [byte] => {
@@ -97,11 +99,12 @@ fn wtx<'b>(inf: &'b [u8]) -> Result<Block<'b>, BlockFault>
 ///
 /// Errors: `Empty` without a byte; `Cid`, `Nad` or `BadPcb` for a PCB that is none of the protocol's; `BadInf` for an
 /// R-block or S(DESELECT) with further bytes and for an S(WTX) without exactly one; `BadWtxm` for a WTXM of 0 or above
-/// 59. A block of at most 254 bytes has its values in their ranges.
+/// 59. A block of at most 254 bytes has its values in their ranges, and a longer one its number too.
 #[tactic(auto, unfolding(ep_base::specs::Spelling::announced))]
 pub fn decode(bytes: &[u8]) -> Result<Block<'_>, BlockFault>
     ensures block { decoded_of result ≡ read_block bytes.now }
     ensures range { length bytes.now ≤ 254 → IfOk result InRange }
+    ensures number { IfOk result IsNumbered }
 {
     let Some((pcb, inf)) = bytes.split_first() else {
         return Err(BlockFault::Empty);

@@ -125,7 +125,7 @@ module _ {S : Type 0} (steps : MediumSteps S) (set : LinkSetting) where
   failed_at : (r0 : Reader) (s0 : S) (end : LinkEnd) (e : Held) (t : S) (hs : List Hearing) (h : Hearing) (x : Turn) → Follows steps set (hs ++ h ∷ []) r0 s0 x t → Shows (Failed end) e h x → Carried steps set r0 s0 (Err end) e t
   failed_at r0 s0 (Spent bad) e t hs h (Asks q) follows shows = absurd shows.says
   failed_at r0 s0 (Spent bad) e t hs h (Gives response q) follows shows = absurd shows.says
-  failed_at r0 s0 (Spent bad) e t hs h (Spends q) follows shows = record { hearings = hs ++ h ∷ []; reader = q; follows = follows; fails = shows.stands; three = shows.says.0 }
+  failed_at r0 s0 (Spent bad) e t hs h (Spends q) follows shows = record { hearings = hs ++ h ∷ []; reader = q; follows = follows; fails = shows.stands; three = shows.says.0; third = shows.says.1 }
   failed_at r0 s0 (Spent bad) e t hs h (Breaks q) follows shows = absurd shows.says
   failed_at r0 s0 (Breach b) e t hs h (Asks q) follows shows = absurd shows.says
   failed_at r0 s0 (Breach b) e t hs h (Gives response q) follows shows = absurd shows.says

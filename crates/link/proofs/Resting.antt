@@ -22,6 +22,7 @@ use Rattle.block_reader.specs.declared.ends.LinkEnd.{LinkEnd}
 use Rattle.block_reader.specs.declared.ends.LinkEnd.TheVariants.{Spent, Breach, Device}
 use Rattle.link.specs.Answers.{reply_of}
 use Rattle.link.specs.Carried.{Carried, ByWire}
+use Rattle.link.specs.Heard.{AsHeard}
 use Rattle.link.specs.Radio.{ClosesWire, IsStill, OverWire, link_of, open_link, radio_at, resting}
 
 is_idle : (s : Stage) (size : ℕ) (command : List ℕ) (place : ℕ) (got : List ℕ) → counts.is_resting s ≡ true → Idle ≡ phase_by s size command place got
@@ -102,6 +103,38 @@ module _ {S : Type 0} (steps : MediumSteps S) (s : S) (fsdi : ℕ) (command : Li
   failed o e o' end is none still carried =
       subst (λ (x : Option ReaderEnd). TransactsOver steps (link_of x) (radio_at s fsdi x) command (reply_of (Err end)) (radio_at t fsdi o')) (sym is)
       (failed_at e o' end none (carried (resting (held e)) (rests_still (held e) still)))
+
+  -- what was heard, with all that the end says
+  heard_ok : (e : Held) (link : Option OpenLink) (response : List ℕ) → link ≡ Some (open_link e') → e'.set ≡ e.set
+      → Carried steps e.set (begin e.set.frames.card command (resting e)) s (Ok response) e' t
+      → AsHeard steps (open_link e) command s (Ok response) link t
+  heard_ok e link response opens same c = record {
+    hearings = c.hearings;
+    reader = c.reader;
+    leads = c.follows;
+    stays = opens ∙ ap (λ (l : OpenLink). Some l) (one_link e' e.set c.reader same c.rests);
+  }
+
+  heard_err : (e : Held) (link : Option OpenLink) (end : LinkEnd) → link ≡ None
+      → Carried steps e.set (begin e.set.frames.card command (resting e)) s (Err end) e' t
+      → AsHeard steps (open_link e) command s (Err end) link t
+  heard_err e link (Spent bad) none c = record { hearings = c.hearings; reader = c.reader; leads = c.follows; third = c.third; told = c.three; left = none }
+  heard_err e link (Breach b) none c = record { hearings = c.hearings; last = c.last; reader = c.reader; leads = c.follows; told = cc (c.breach); left = none }
+  heard_err e link Device none c = record { hearings = c.hearings; reader = c.reader; between = c.between; leads = c.follows; fails = c.fails; left = none }
+
+  pub as_heard_ok : (e : Held) (l : OpenLink) (link : Option OpenLink) (response : List ℕ) → open_link e ≡ l → link ≡ Some (open_link e') → e'.set ≡ e.set → IsStill e
+      → ((r : Reader) → Rests e r → Carried steps e.set (begin e.set.frames.card command r) s (Ok response) e' t)
+      → AsHeard steps l command s (Ok response) link t
+  as_heard_ok e l link response is opens same still carried =
+      subst (λ (k : OpenLink). AsHeard steps k command s (Ok response) link t) is
+      (heard_ok e link response opens same (carried (resting e) (rests_still e still)))
+
+  pub as_heard_err : (e : Held) (l : OpenLink) (link : Option OpenLink) (end : LinkEnd) → open_link e ≡ l → link ≡ None → IsStill e
+      → ((r : Reader) → Rests e r → Carried steps e.set (begin e.set.frames.card command r) s (Err end) e' t)
+      → AsHeard steps l command s (Err end) link t
+  as_heard_err e l link end is none still carried =
+      subst (λ (k : OpenLink). AsHeard steps k command s (Err end) link t) is
+      (heard_err e link end none (carried (resting e) (rests_still e still)))
 
 -- Over a wire, with the link after a response.
 pub over_wire_ok : (response : List ℕ) (set : LinkSetting) (link : Option OpenLink) (e' : Held) (w : Wire) (command : List ℕ) (t : Wire)

@@ -1,6 +1,7 @@
 -- What a command comes to that a reader's end carries over a medium (this project's own).
 use Rattle.std.specs.Prelude.{◌≡◌, ℕ, List, [], ◌∷◌, ◌++◌, None, Result, Ok, Err}
 use Rattle.ep_base.specs.Hearing.{Hearing}
+use Rattle.ep_base.specs.Block.{is_bad, count}
 use Rattle.ep_base.specs.Medium.{MediumSteps}
 use Rattle.ep_base.specs.ReaderEnd.{Reader, Asks, Gives, Spends, Breaks, asked}
 use Rattle.ep_base.specs.LinkFrames.{LinkSetting, breach_of}
@@ -25,6 +26,7 @@ pub record RunsOut {S : Type 0} (steps : MediumSteps S) (set : LinkSetting) (r :
   pub follows : Follows steps set hearings r s (Spends reader) t
   pub fails : Fails e reader
   pub three : bad ≡ 3
+  pub third : count is_bad reader.since ≡ 3
 
 -- The last of the hearings was outside the rules.
 pub record IsBroken {S : Type 0} (steps : MediumSteps S) (set : LinkSetting) (r : Reader) (s : S) (end : LinkEnd) (e : Held) (t : S) : Type 0 where

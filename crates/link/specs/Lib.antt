@@ -1,4 +1,5 @@
 pub mod Answers
 pub mod Carried
 pub mod Direct
+pub mod Heard
 pub mod Radio

@@ -9,6 +9,7 @@ ghost use Rattle.ep_base.specs.Radio.{ClosesOver, OpenLink, Radio, RadioPresents
 ghost use Rattle.ep_base.specs.Wire.{Wire};
 ghost use Rattle.poll_activate.specs.Meaning.{ends_of};
 ghost use Rattle.link.specs.Answers.{presentation_of, reply_of};
+ghost use Rattle.link.specs.Heard.{AsHeard};
 ghost use Rattle.link.specs.Radio.{ClosesWire, IsStill, OverWire, link_of, radio_at};
 
 use crate::{LinkEnd, PresentEnd, Presented, Transport, carry};
@@ -100,13 +101,17 @@ impl<M: Medium> Transport for RfTransport<M> {
     /// Sends the command's blocks, and hears until the command ends. After an error no link is left. Over a medium that
     /// acts as a wire the command is executed once, or at most once where the link is spent, and there is no other error.
     ///
-    /// Errors: `Spent` and `Breach` by the reader's table (ISO/IEC 14443-4), `Device` where the medium failed.
+    /// Errors: `Spent` with 3 at the third bad hearing since the toggle, and `Breach` by the reader's table (ISO/IEC
+    /// 14443-4), with the frame that was heard, the reader's number, its phase, and its count of S(WTX); `Device` where the
+    /// medium failed.
     fn transact(&mut self, command: &Command) -> Result<Response, LinkEnd>
         requires { is_some self.old.link ≡ true }
         ensures step { TransactsOver M.steps (link_of self.old.link) (radio_at (M.state self.old.medium) self.old.fsdi self.old.link) command.now (reply_of result)
             (radio_at (M.state self.new.medium) self.new.fsdi self.new.link) }
         ensures presented { is_some self.new.link ≡ is_ok result }
         ensures cause { HasCause (M.faults self.old.medium) (M.faults self.new.medium) (IsErrOf result LinkEnd.Device) }
+        ensures as_heard { (l : OpenLink) → link_of self.old.link ≡ Some l →
+            AsHeard M.steps l command.now (M.state self.old.medium) result (link_of self.new.link) (M.state self.new.medium) }
         ensures once { (good : M.State → Bool) (shown : M.State → Wire) (l : OpenLink) → link_of self.old.link ≡ Some l → ActsAs M.steps l.set good shown →
             good (M.state self.old.medium) ≡ true → OfLink l.set (shown (M.state self.old.medium)) →
             AtRest l.reader (shown (M.state self.old.medium)).party.card →
