@@ -38,7 +38,7 @@ use Rattle.law_round.proofs.Carrying.{once_in_field_law, leaves_others_law, stay
 use Rattle.law_round.proofs.Closing.{closes_quietly_law}
 use Rattle.law_round.proofs.Lossless.{Passing, IsClear, rounds_passing, passing_block, command_clear, unspent_in_field}
 use Rattle.law_radio.specs.Lossless.{NoLoss}
-use Rattle.law_radio.specs.OverRadio.{numbers, AreDistinct, AreNumbered, IsNew, IsCarried, AtThird, Keeps, OverRadio}
+use Rattle.law_radio.specs.OverRadio.{numbers, AreDistinct, AreNumbered, IsNew, IsCarried, Keeps, OverRadio}
 use Rattle.law_radio.proofs.Numbers.{number_stays}
 use Rattle.law_radio.proofs.Cards.{AllImages, names_polled, numbers_polled, numbers_moved, numbered_again, found_number, have_all, images_polled, images_presented, images_moved, images_stay, image_at, none_selected}
 use Rattle.law_radio.proofs.Kept.{Kept, say_kept, poll_kept, close_kept, answer_kept}
@@ -55,9 +55,8 @@ never_fails set b s t sends =
     let clash = ap (λ (x : Option Hearing × Field). x.0) e in
     cc
 
--- a link failed so, and it can't have where Q holds
-pub record Fails (Q : Type 0) (u : Field) (c : List ℕ) : Type 0 where
-  pub third : AtThird u c
+-- a link can't have failed where Q holds
+pub record Fails (Q : Type 0) (c : List ℕ) : Type 0 where
   pub never : Q → ⊥
 
 -- Q stands for what makes every frame pass
@@ -103,7 +102,7 @@ module _ (number_of : Activated → ℕ) (later : List RoundEnd) (Q : Type 0) wh
 
   abbrev Goal : Talk → HearEnd → Channel Image → Radio Field → Radio Field → List Result → Type 0
   Goal talk ending ch s u heard =
-      (log : List (ℕ × List ℕ)) × (u.medium.log ≡ s.medium.log ++ log) × Kept (Fails Q u.medium) talk heard log (perfect one talk (ends_of heard ++ later) ch) ending
+      (log : List (ℕ × List ℕ)) × (u.medium.log ≡ s.medium.log ++ log) × Kept (Fails Q) talk heard log (perfect one talk (ends_of heard ++ later) ch) ending
 
   -- each hearing of the talk is as its perfect run
   abbrev Plays : Talk → Type 0
@@ -113,7 +112,7 @@ module _ (number_of : Activated → ℕ) (later : List RoundEnd) (Q : Type 0) wh
 
   over_plays : (e : Ending) → Plays (Over e)
   over_plays e found m more s u ch heard ending knows link legal most is =
-      let same : Kept (Fails Q u.medium) (Over e) [] [] nothing Whole = record { results = refl; executed = refl; over = refl } in
+      let same : Kept (Fails Q) (Over e) [] [] nothing Whole = record { results = refl; executed = refl; over = refl } in
       let start : Goal (Over e) Whole ch s s [] = ([], sym (append-nil s.medium.log), same) in
       subst (λ h. Goal (Over e) ending ch s u h) (sym is.0)
       (subst (λ x. Goal (Over e) x ch s u []) (sym is.1) (subst (λ v. Goal (Over e) Whole ch s v []) (sym is.2) start))
@@ -121,7 +120,7 @@ module _ (number_of : Activated → ℕ) (later : List RoundEnd) (Q : Type 0) wh
   say_plays : (x : Told) (next : Talk) → Plays next → Plays (Say x next)
   say_plays x next again found m more s u ch heard ending knows link legal most hears =
       let r = again found m more s u ch heard ending knows link legal most hears in
-      (r.0, r.1, say_kept (Fails Q u.medium) x next heard r.0 (perfect one next (ends_of heard ++ later) ch) ending r.2)
+      (r.0, r.1, say_kept (Fails Q) x next heard r.0 (perfect one next (ends_of heard ++ later) ch) ending r.2)
 
   -- ---- presentations
 
@@ -154,7 +153,7 @@ module _ (number_of : Activated → ℕ) (later : List RoundEnd) (Q : Type 0) wh
       → Goal (next x) ending (presents one ch x) v u rest → Goal (Poll next) ending ch s u heard
   polled_goal next x ending s v u ch heard rest log is r =
       let g : Goal (Poll next) ending ch s u (Round x ∷ rest) =
-      (r.0, r.1 ∙ ap (λ (l : List (ℕ × List ℕ)). l ++ r.0) log, poll_kept (Fails Q u.medium) x next rest r.0 (perfect one (next x) (ends_of rest ++ later) (presents one ch x)) ending r.2) in
+      (r.0, r.1 ∙ ap (λ (l : List (ℕ × List ℕ)). l ++ r.0) log, poll_kept (Fails Q) x next rest r.0 (perfect one (next x) (ends_of rest ++ later) (presents one ch x)) ending r.2) in
       subst (λ h. Goal (Poll next) ending ch s u h) (sym is) g
 
   -- a card that came, and how the channel has it
@@ -256,7 +255,7 @@ module _ (number_of : Activated → ℕ) (later : List RoundEnd) (Q : Type 0) wh
       } in
       let r = again false m more v u c h.0 ending kv (subst (λ o. ByLink m false more v.medium c o) (sym is.2.links) tt) legal most h.2 in
       let g : Goal (Close next) ending ch s u (Closed ∷ h.0) =
-      (r.0, r.1 ∙ ap (λ (x : List (ℕ × List ℕ)). x ++ r.0) quiet.0, close_kept (Fails Q u.medium) next h.0 r.0 (perfect one next (ends_of h.0 ++ later) c) ending r.2) in
+      (r.0, r.1 ∙ ap (λ (x : List (ℕ × List ℕ)). x ++ r.0) quiet.0, close_kept (Fails Q) next h.0 r.0 (perfect one next (ends_of h.0 ++ later) c) ending r.2) in
       subst (λ x. Goal (Close next) ending ch s u x) (sym h.1) g
 
   close_plays : (next : Talk) → Plays next → Plays (Close next)
@@ -363,19 +362,19 @@ module _ (number_of : Activated → ℕ) (later : List RoundEnd) (Q : Type 0) wh
         let short : length a ≤ 258 = subst (λ (y : List ℕ). length y ≤ 258) (sym said) fits in
         let y = again a found (m - 1) more v u then_channel rest ending kv (subst (λ p. ByLink (m - 1) found more v.medium then_channel p) (sym is.2.links) has) (x.legal a) (x.most a short) hears in
         let ends = ends_of rest ++ later in
-        let kept : Kept (Fails Q u.medium) (Command c next) (Response a ∷ rest) ((card_number, c) ∷ y.0) (executes card_number c (gave (Response a) (perfect one (next a) ends then_channel))) ending =
-        answer_kept (Fails Q u.medium) card_number c a next rest y.0 (perfect one (next a) ends then_channel) ending y.2 in
-        let kept_so : Kept (Fails Q u.medium) (Command c next) (Response a ∷ rest) ((card_number, c) ∷ y.0) (run_of c next ends ch card_number card_image) ending =
-        subst (λ z. Kept (Fails Q u.medium) (Command c next) (Response a ∷ rest) ((card_number, c) ∷ y.0) (executes card_number c (gave (Response z) (perfect one (next z) ends then_channel))) ending) said kept in (
+        let kept : Kept (Fails Q) (Command c next) (Response a ∷ rest) ((card_number, c) ∷ y.0) (executes card_number c (gave (Response a) (perfect one (next a) ends then_channel))) ending =
+        answer_kept (Fails Q) card_number c a next rest y.0 (perfect one (next a) ends then_channel) ending y.2 in
+        let kept_so : Kept (Fails Q) (Command c next) (Response a ∷ rest) ((card_number, c) ∷ y.0) (run_of c next ends ch card_number card_image) ending =
+        subst (λ z. Kept (Fails Q) (Command c next) (Response a ∷ rest) ((card_number, c) ∷ y.0) (executes card_number c (gave (Response z) (perfect one (next z) ends then_channel))) ending) said kept in (
           (card_number, c) ∷ y.0,
           y.1 ∙ (ap (λ (z : List (ℕ × List ℕ)). z ++ y.0) log ∙ append_assoc s.medium.log ((card_number, c) ∷ []) y.0),
-          subst (λ p. Kept (Fails Q u.medium) (Command c next) (Response a ∷ rest) ((card_number, c) ∷ y.0) p ending) (sym (run_is c next ends ch card_image (h.here x.sent))) kept_so,
+          subst (λ p. Kept (Fails Q) (Command c next) (Response a ∷ rest) ((card_number, c) ∷ y.0) p ending) (sym (run_is c next ends ch card_image (h.here x.sent))) kept_so,
         )
 
     abbrev then_run : Perfect
     then_run = perfect one (next response) later then_channel
 
-    ends_here : (log : List (ℕ × List ℕ)) → (log ≡ []) ⊎ (log ≡ (card_number, c) ∷ []) → Fails Q v.medium c → Kept (Fails Q v.medium) (Command c next) [] log (run_of c next later ch card_number card_image) AtLink
+    ends_here : (log : List (ℕ × List ℕ)) → (log ≡ []) ⊎ (log ≡ (card_number, c) ∷ []) → Fails Q c → Kept (Fails Q) (Command c next) [] log (run_of c next later ch card_number card_image) AtLink
     ends_here log executed third = (
       record {
         number = card_number;
@@ -395,15 +394,14 @@ module _ (number_of : Activated → ℕ) (later : List RoundEnd) (Q : Type 0) wh
       third,
     )
 
-    spent_here : (log : List (ℕ × List ℕ)) → (log ≡ []) ⊎ (log ≡ (card_number, c) ∷ []) → Fails Q v.medium c → v.medium.log ≡ s.medium.log ++ log → Goal (Command c next) AtLink ch s v []
+    spent_here : (log : List (ℕ × List ℕ)) → (log ≡ []) ⊎ (log ≡ (card_number, c) ∷ []) → Fails Q c → v.medium.log ≡ s.medium.log ++ log → Goal (Command c next) AtLink ch s v []
     spent_here log executed third is =
-        (log, is, subst (λ p. Kept (Fails Q v.medium) (Command c next) [] log p AtLink) (sym (run_is c next later ch card_image (h.here x.sent))) (ends_here log executed third))
+        (log, is, subst (λ p. Kept (Fails Q) (Command c next) [] log p AtLink) (sym (run_is c next later ch card_image (h.here x.sent))) (ends_here log executed third))
 
     spent_goal : LinkTransacts (told field) l s c Spent v → Goal (Command c next) AtLink ch s v []
     spent_goal is =
         let o = (once (Spends is.0) is.1.hearings is.1.follows).0 in
-        let third : Fails Q v.medium c = record {
-          third = record { link = l; before = s.medium; reader = is.0; comes = is.1; third = o.0 };
+        let third : Fails Q c = record {
           never = λ q. unspent_in_field l.set h.place s.medium v.medium l.reader c is.1.hearings (Spends is.0) h.is (h.ready x.some).0 (h.ready x.some).1 x.form (h.there q, k.pass q) is.1.follows;
         } in
         elim o.1 [
@@ -438,7 +436,7 @@ module _ (number_of : Activated → ℕ) (later : List RoundEnd) (Q : Type 0) wh
 
   -- what was heard to an end
   kept_over : (images : ℕ → Image) (talk : Talk) (s u : Radio Field) (heard : List Result) (ending : HearEnd) → (Q → Passing s.medium) → IsNew number_of images s → IsCarried talk s.medium.room
-      → Hears (radio (told field)) talk [] s heard ending u → Kept (Fails Q u.medium) talk heard u.medium.log (perfect one talk (ends_of heard ++ later) (channel images)) ending
+      → Hears (radio (told field)) talk [] s heard ending u → Kept (Fails Q) talk heard u.medium.log (perfect one talk (ends_of heard ++ later) (channel images)) ending
   kept_over images talk s u heard ending pass x t hears =
       let ch : Channel Image = channel images in
       let size : length s.medium.log ≡ 0 = ap (λ (log : List (ℕ × List ℕ)). length log) x.empty in
@@ -454,20 +452,20 @@ module _ (number_of : Activated → ℕ) (later : List RoundEnd) (Q : Type 0) wh
       let r = plays talk false t.commands [] s u ch heard ending knows (subst (λ o. ByLink t.commands false [] s.medium ch o) (sym x.unlinked) tt) t.legal t.most hears in
       let log : u.medium.log ≡ r.0 = r.1 ∙ ap (λ (l : List (ℕ × List ℕ)). l ++ r.0) x.empty in
       let p = perfect one talk (ends_of heard ++ later) ch in
-      subst (λ l. Kept (Fails Q u.medium) talk heard l p ending) (sym log) r.2
+      subst (λ l. Kept (Fails Q) talk heard l p ending) (sym log) r.2
 
-pub keeps : (Q : Type 0) (talk : Talk) (heard : List Result) (u : Field) (p : Perfect) (ending : HearEnd) → Kept (Fails Q u) talk heard u.log p ending → Keeps talk heard u p ending
+pub keeps : (Q : Type 0) (talk : Talk) (heard : List Result) (u : Field) (p : Perfect) (ending : HearEnd) → Kept (Fails Q) talk heard u.log p ending → Keeps talk heard u p ending
 keeps Q talk heard u p Whole r = record {
   events = append-nil (so_far talk heard).events ∙ ap (λ (y : List Result). (so_far talk y).events) (sym r.results);
   executed = r.executed;
   over = r.over;
 }
-keeps Q talk heard u p AtLink r = (r.0, r.1.third)
+keeps Q talk heard u p AtLink r = r.0
 keeps Q talk heard u p AtBreach r = r
 keeps Q talk heard u p AtDevice r = r
 
 -- where Q holds it is whole
-pub whole_by : (Q : Type 0) (talk : Talk) (heard : List Result) (u : Field) (log : List (ℕ × List ℕ)) (p : Perfect) (ending : HearEnd) → Q → Kept (Fails Q u) talk heard log p ending → ending ≡ Whole
+pub whole_by : (Q : Type 0) (talk : Talk) (heard : List Result) (u : Field) (log : List (ℕ × List ℕ)) (p : Perfect) (ending : HearEnd) → Q → Kept (Fails Q) talk heard log p ending → ending ≡ Whole
 whole_by Q talk heard u log p Whole q r = refl
 whole_by Q talk heard u log p AtLink q r = absurd (r.1.never q)
 whole_by Q talk heard u log p AtBreach q r = absurd r

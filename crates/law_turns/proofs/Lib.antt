@@ -4,8 +4,10 @@ pub mod Counting
 pub mod Ending
 pub mod Growing
 pub mod Keeping
+pub mod Least
 pub mod Ordering
 pub mod Owning
 pub mod Stepping
 pub mod Telling
+pub mod Thirds
 pub mod Writing

@@ -3,9 +3,11 @@ pub mod Counting
 pub mod Ending
 pub mod Growing
 pub mod Keeping
+pub mod LanePromise
 pub mod LaneText
 pub mod Order
 pub mod Pieces
 pub mod Telling
+pub mod Thirds
 pub mod Turning
 pub mod WholeRun
