@@ -3,4 +3,3 @@ pub mod Numbers
 pub mod Promising
 pub mod Ready
 pub mod Replaying
-pub mod Thirds

@@ -1,7 +1,7 @@
 -- The text of lanes whose transactions may begin has the promise, where the probe gives on what it gets.
 use Rattle.std.proofs.Common.{◌≡◌, ℕ, zero, suc, ◌+◌, Bool, true, false, List, [], ◌∷◌, length, map, All, refl, sym, ap, subst, ◌∙◌}
 use Rattle.std.specs.Prelude.{◌==◌, if◌then◌else◌}
-use Rattle.std.proofs.lemmas.List.Elements.{All-nil, All-head, All-tail, All-weaker}
+use Rattle.std.proofs.lemmas.List.Elements.{All-nil, All-head, All-tail}
 use Rattle.ep_base.specs.Configuration.{Settings}
 use Rattle.ep_base.specs.Kernel.{scripted}
 use Rattle.ep_base.specs.Lanes.{times}
@@ -13,20 +13,20 @@ use Rattle.law_run.proofs.Scripting.{scripts_fall_lem}
 use Rattle.law_run.proofs.Legal.{scripted_lem}
 use Rattle.law_turns.specs.LaneText.{Job}
 use Rattle.law_turns.specs.WholeRun.{ProbeSteps, open_probe, Run, hears, asks, turn_of, takes_turn, run_step, opened_run, run_after}
-use Rattle.law_turns.specs.Telling.{jobs_of, AreTold}
+use Rattle.law_turns.specs.Telling.{jobs_of}
 use Rattle.law_turns.specs.Ending.{HasEnded}
-use Rattle.law_turns.specs.Keeping.{IsReady, AreReady}
+use Rattle.law_turns.specs.Keeping.{cards_in, IsReady}
+use Rattle.law_turns.specs.LanePromise.{AreReady}
 use Rattle.law_turns.proofs.Apart.{lanes_apart_law}
 use Rattle.law_turns.proofs.Ending.{one_end_law}
 use Rattle.law_turns.proofs.Keeping.{told_keep_law}
 use Rattle.law_turns.proofs.Stepping.{by_step}
-use Rattle.law_turns.proofs.Telling.{runs_tell_law, tells_report_law}
+use Rattle.law_turns.proofs.Telling.{runs_tell_law}
 use Rattle.law_turns.proofs.Writing.{pieces_are_text_law}
 use Rattle.scenario.specs.Scene.{Work}
 use Rattle.lane_report.specs.Works.{preparation, job_of}
 use Rattle.ep_program.specs.Headline.{IsFresh}
-use Rattle.ep_program.specs.Promise.{cards_in, FailsAtThird, GivesOn, IsReport, HasPromise}
-use Rattle.ep_program.proofs.Thirds.{fails_at_third}
+use Rattle.ep_program.specs.Promise.{GivesOn, HasPromise}
 
 -- ---- a run with a probe that gives on what it gets is one with the open probe
 
@@ -90,11 +90,6 @@ jobs_ready fsdi (jobs ∷ rest) first lane all =
 
 -- ---- the promise
 
-without_trace : (traced : Bool) (fsdi lane : ℕ) (jobs : List Job) (text : List ℕ) → AreTold traced fsdi lane 1 jobs text → traced ≡ false
-    → IsReport fsdi lane jobs text
-without_trace true fsdi lane jobs text told e = absurd (let clash : ⊥ = cc in clash)
-without_trace false fsdi lane jobs text told e = tells_report_law fsdi lane jobs text told
-
 open_promise : (traced : Bool) (fsdi : ℕ) (turns : List ℕ) (lanes : List (List Job)) (n : ℕ) → All (All (MayBegin fsdi)) lanes
     → HasEnded (length lanes) (run_after traced open_probe fsdi turns tt lanes n)
     → HasPromise traced fsdi turns lanes (run_after traced open_probe fsdi turns tt lanes n).text
@@ -106,9 +101,6 @@ open_promise traced fsdi turns lanes n ready over = record {
   keeps = λ lane is.
       told_keep_law traced fsdi lane _ _ _ (are_ready fsdi _ (jobs_ready fsdi lanes 1 lane ready))
       (runs_tell_law traced fsdi turns lanes n lane is over);
-  thirds = λ lane is.
-      All-weaker (MayBegin fsdi) (FailsAtThird fsdi) (λ j begins. fails_at_third fsdi j) _ (jobs_ready fsdi lanes 1 lane ready);
-  reports = λ lane is. without_trace traced fsdi lane _ _ (runs_tell_law traced fsdi turns lanes n lane is over);
   apart = λ lane is. lanes_apart_law traced fsdi turns lanes n lane is;
 }
 

@@ -1,5 +1,6 @@
 -- The replay of an accepted document's lanes.
-use Rattle.std.proofs.Common.{◌≡◌, ℕ, List, [], ◌∷◌, map, All, refl, sym, ap, subst, ◌∙◌, Option, Some, None, Result, Ok, Err}
+use Rattle.std.proofs.Common.{◌≡◌, ◌≢◌, ℕ, List, [], ◌∷◌, map, All, refl, sym, ap, subst, ◌∙◌, Option, Some, None, Result, Ok, Err}
+use Rattle.std.specs.Prelude.{IfSome}
 use Rattle.std.proofs.lemmas.List.Elements.{All-nil, All-cons}
 use Rattle.std.specs.Io.KnownBytes.{Appends, Keeps}
 use Rattle.toml.specs.Data.{Members}
@@ -13,6 +14,7 @@ use Rattle.ep_base.specs.TraceLine.{Traced}
 use Rattle.lane_replay.specs.Replayed.{IsFirst}
 use Rattle.lane_replay.specs.Shows.{all_talks}
 use Rattle.lane_replay.specs.WholeReplay.{ReplayEnds}
+use Rattle.lane_replay.proofs.Differing.{mismatches_differ_law}
 use Rattle.lane_replay.proofs.Stopping.{one_end_law}
 use Rattle.lane_report.specs.Works.{LaneWork, new_work, talk_in}
 use Rattle.scenario.specs.Plan.{Plan, plan}
@@ -43,10 +45,16 @@ module _ {V : Type 0} (items : V → List Work) where
 
 -- ---- a replay's text
 
+differ_by : (s : Scene) (lines : List Traced) (mismatch : Option traces.Mismatch) (text : List ℕ)
+    → ReplayEnds s.fsdi s.turns lines (talks_in s) mismatch text → IfSome mismatch (λ (m : traces.Mismatch). m.wanted ≢ m.got)
+differ_by s lines None text ends = tt
+differ_by s lines (Some m) text ends = mismatches_differ_law s.fsdi s.turns lines (talks_in s) m text ends
+
 is_text : (s : Scene) (lines : List Traced) (mismatch : Option traces.Mismatch) (text : List ℕ)
     → ReplayEnds s.fsdi s.turns lines (talks_in s) mismatch text → IsReplayText s lines mismatch text
 is_text s lines mismatch text ends = record {
   ends = ends;
+  differ = differ_by s lines mismatch text ends;
   only = λ other said x. one_end_law s.fsdi s.turns lines (talks_in s) other mismatch said text x ends;
 }
 

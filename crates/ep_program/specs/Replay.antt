@@ -1,5 +1,5 @@
 -- What the program answers to the words of a replay, and what it wrote then (this project's own).
-use Rattle.std.specs.Prelude.{codes, ◌≡◌, ℕ, List, [], map, Some, None, Result, Ok, Err, IfSome}
+use Rattle.std.specs.Prelude.{codes, ◌≡◌, ◌≢◌, ℕ, List, [], map, Some, None, Result, Ok, Err, IfSome}
 use Rattle.std.specs.declared.option.Option.{Option}
 use Rattle.std.specs.Io.KnownBytes.{Appends, Keeps}
 use Rattle.toml.specs.Data.{Members}
@@ -39,10 +39,11 @@ GivesTrace input p lines = (members : Members) × (replay_plan members ≡ Ok (p
 abbrev pub talks_in : Scene → List (List Talk)
 talks_in s = map (λ lane. map (talk_in s.config) lane) s.lanes
 
--- The replay of a scene's lanes against these lines ends so, matched or with its first mismatch, and with this text; it has no other end and no other
--- text (this project's own).
+-- The replay of a scene's lanes against these lines ends so, matched or with its first mismatch, of which what is wanted and what was sent differ, and
+-- with this text; it has no other end and no other text (this project's own).
 pub record IsReplayText (s : Scene) (lines : List Traced) (mismatch : Option traces.Mismatch) (text : List ℕ) : Type 0 where
   pub ends : ReplayEnds s.fsdi s.turns lines (talks_in s) mismatch text
+  pub differ : IfSome mismatch (λ (m : traces.Mismatch). m.wanted ≢ m.got)
   pub only : (other : Option traces.Mismatch) (said : List ℕ) → ReplayEnds s.fsdi s.turns lines (talks_in s) other said →
       (other ≡ mismatch) × (said ≡ text)
 

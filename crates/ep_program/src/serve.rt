@@ -43,6 +43,8 @@ use std::alloc::Global;
 ///   since the link was opened, and the transaction ends with it. Then the report has the events before that command and
 ///   the failed link's end, and the cards executed the commands before it, each once, and that command at most once.
 /// - A card is never found to break the rules of the link, and no device fails.
+/// - Where every frame of a lane's transactions passes, no link fails, and the lane's lines, without the trace lines, are
+///   those of the events and the commands of the perfect runs.
 /// - Each lane writes what it writes alone, with its own number and without a turn list.
 /// - There is one such text, and no other can be written.
 ///
@@ -52,8 +54,9 @@ use std::alloc::Global;
 ///
 /// The lanes take turns as in a report. Each exchange is compared with the next line of the trace: lane, wave, frame and
 /// waiting number. Where they are the same, the lane hears what the line says. `Done` comes exactly where each exchange has
-/// its line and each line its exchange, and `Mismatch` with the first place where that isn't so; both with all that was
-/// written until then, and `WriteFault` with a first part of it. The probe isn't asked.
+/// its line and each line its exchange, and `Mismatch` with the first place where that isn't so, of which what is wanted and
+/// what was sent differ; both with all that was written until then, and `WriteFault` with a first part of it. The probe isn't
+/// asked.
 ///
 /// # Loads
 ///

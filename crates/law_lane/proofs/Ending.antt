@@ -56,7 +56,7 @@ module _ (number_of : Activated → ℕ) (Q : Type 0) (fsdi : ℕ) (start : Talk
 
   abbrev Goal : Talk → List Result → HearEnd → Channel Image → Field → Field → List RoundEnd → Type 0
   Goal rest heard ending ch f g later =
-      (log : List (ℕ × List ℕ)) × (g.log ≡ f.log ++ log) × Kept (Fails Q g) rest heard log (perfect (one number_of) rest (ends_of heard ++ later) ch) ending
+      (log : List (ℕ × List ℕ)) × (g.log ≡ f.log ++ log) × Kept (Fails Q) rest heard log (perfect (one number_of) rest (ends_of heard ++ later) ch) ending
 
   -- the rest of the talk comes to an end
   record Course (rest : Talk) (results : List Result) (link : Option OpenLink) (f : Field) (ch : Channel Image) : Type 0 where
@@ -122,7 +122,7 @@ module _ (number_of : Activated → ℕ) (Q : Type 0) (fsdi : ℕ) (start : Talk
         hears = r.hears;
         keeps = λ later.
             let y = r.keeps later in
-            (y.0, y.1, say_kept (Fails Q r.after) x next r.heard y.0 (perfect (one number_of) next (ends_of r.heard ++ later) ch) r.ending y.2);
+            (y.0, y.1, say_kept (Fails Q) x next r.heard y.0 (perfect (one number_of) next (ends_of r.heard ++ later) ch) r.ending y.2);
       }
 
   -- ---- a poll round
@@ -158,7 +158,7 @@ module _ (number_of : Activated → ℕ) (Q : Type 0) (fsdi : ℕ) (start : Talk
             let y = r.keeps later in (
               y.0,
               y.1 ∙ ap (λ (l : List (ℕ × List ℕ)). l ++ y.0) after.log,
-              poll_kept (Fails Q r.after) e next r.heard y.0 (perfect (one number_of) (next e) (ends_of r.heard ++ later) c) r.ending y.2,
+              poll_kept (Fails Q) e next r.heard y.0 (perfect (one number_of) (next e) (ends_of r.heard ++ later) c) r.ending y.2,
             );
       }
 
@@ -190,7 +190,7 @@ module _ (number_of : Activated → ℕ) (Q : Type 0) (fsdi : ℕ) (start : Talk
             let y = r.keeps later in (
               y.0,
               y.1 ∙ ap (λ (x : List (ℕ × List ℕ)). x ++ y.0) after.log,
-              close_kept (Fails Q r.after) next r.heard y.0 (perfect (one number_of) next (ends_of r.heard ++ later) c) r.ending y.2,
+              close_kept (Fails Q) next r.heard y.0 (perfect (one number_of) next (ends_of r.heard ++ later) c) r.ending y.2,
             );
       }
 
@@ -250,23 +250,23 @@ module _ (number_of : Activated → ℕ) (Q : Type 0) (fsdi : ℕ) (start : Talk
               let y = r.keeps later in
               let es = ends_of r.heard ++ later in
               let log : List (ℕ × List ℕ) = (card_image.number, c) ∷ y.0 in
-              let kept : Kept (Fails Q r.after) (Command c next) (Response a ∷ r.heard) log (executes card_image.number c (gave (Response a) (perfect (one number_of) (next a) es d))) r.ending =
-              answer_kept (Fails Q r.after) card_image.number c a next r.heard y.0 (perfect (one number_of) (next a) es d) r.ending y.2 in
-              let kept_so : Kept (Fails Q r.after) (Command c next) (Response a ∷ r.heard) log (run_of c next es ch card_image.number card_image) r.ending =
-              subst (λ z. Kept (Fails Q r.after) (Command c next) (Response a ∷ r.heard) log (executes card_image.number c (gave (Response z) (perfect (one number_of) (next z) es d))) r.ending) after.said kept in (
+              let kept : Kept (Fails Q) (Command c next) (Response a ∷ r.heard) log (executes card_image.number c (gave (Response a) (perfect (one number_of) (next a) es d))) r.ending =
+              answer_kept (Fails Q) card_image.number c a next r.heard y.0 (perfect (one number_of) (next a) es d) r.ending y.2 in
+              let kept_so : Kept (Fails Q) (Command c next) (Response a ∷ r.heard) log (run_of c next es ch card_image.number card_image) r.ending =
+              subst (λ z. Kept (Fails Q) (Command c next) (Response a ∷ r.heard) log (executes card_image.number c (gave (Response z) (perfect (one number_of) (next z) es d))) r.ending) after.said kept in (
                 log,
                 y.1 ∙ (ap (λ (z : List (ℕ × List ℕ)). z ++ y.0) after.log ∙ append_assoc f.log ((card_image.number, c) ∷ []) y.0),
-                subst (λ p. Kept (Fails Q r.after) (Command c next) (Response a ∷ r.heard) log p r.ending) (sym (run_is c next es ch card_image b.presented b.image)) kept_so,
+                subst (λ p. Kept (Fails Q) (Command c next) (Response a ∷ r.heard) log p r.ending) (sym (run_is c next es ch card_image b.presented b.image)) kept_so,
               );
         }
 
-    spent_goal : (g : Field) (log : List (ℕ × List ℕ)) (later : List RoundEnd) → (log ≡ []) ⊎ (log ≡ (card_image.number, c) ∷ []) → Fails Q g c → g.log ≡ f.log ++ log
+    spent_goal : (g : Field) (log : List (ℕ × List ℕ)) (later : List RoundEnd) → (log ≡ []) ⊎ (log ≡ (card_image.number, c) ∷ []) → Fails Q c → g.log ≡ f.log ++ log
         → Goal (Command c next) [] AtLink ch f g later
     spent_goal g log later executed third is =
         let d = answered_channel ch card_image.number card_image c in
         let response : List ℕ = (card_answer card_image c).0.response in
         let run : Perfect = perfect (one number_of) (next response) later d in
-        let kept : Kept (Fails Q g) (Command c next) [] log (run_of c next later ch card_image.number card_image) AtLink = (
+        let kept : Kept (Fails Q) (Command c next) [] log (run_of c next later ch card_image.number card_image) AtLink = (
           record {
             number = card_image.number;
             command = c;
@@ -284,14 +284,13 @@ module _ (number_of : Activated → ℕ) (Q : Type 0) (fsdi : ℕ) (start : Talk
           },
           third,
         ) in
-        (log, is, subst (λ p. Kept (Fails Q g) (Command c next) [] log p AtLink) (sym (run_is c next later ch card_image b.presented b.image)) kept)
+        (log, is, subst (λ p. Kept (Fails Q) (Command c next) [] log p AtLink) (sym (run_is c next later ch card_image b.presented b.image)) kept)
 
     spent : (q : Reader) (hs : List Hearing) (g : Field) → length hs ≤ command_most → Follows (told field) l.set hs begun f (Spends q) g → Course (Command c next) results (Some l) f ch
     spent q hs g few follows =
         let o = (once number_of Q c x.form m x.some f g ch l k b (Spends q) hs follows).0 in
         let comes : Comes (told field) l c f (Spends q) g = record { hearings = hs; follows = follows } in
-        let third : Fails Q g c = record {
-          third = record { link = l; before = f; reader = q; comes = comes; third = o.0 };
+        let third : Fails Q c = record {
           never = λ holds. unspent number_of Q c x.form m x.some f g ch l k b q hs holds follows;
         } in
         let moves = sent hs (Spends q) g few follows in
@@ -366,7 +365,7 @@ whole_ends number_of images talk s new carried closes =
             let log : r.after.log ≡ y.0 = y.1 ∙ ap (λ (z : List (ℕ × List ℕ)). z ++ y.0) new.empty in
             let p : Perfect = perfect (one number_of) talk (ends_of r.heard ++ later) ch in
             let kept : Keeps talk r.heard r.after p r.ending =
-            keeps (Passing s.medium) talk r.heard r.after p r.ending (subst (λ z. Kept (Fails (Passing s.medium) r.after) talk r.heard z p r.ending) (sym log) y.2) in
+            keeps (Passing s.medium) talk r.heard r.after p r.ending (subst (λ z. Kept (Fails (Passing s.medium)) talk r.heard z p r.ending) (sym log) y.2) in
             subst (λ z. Keeps talk z.standing.results z.field (perfect (one number_of) talk (ends_of z.standing.results ++ later) ch) r.ending) (sym is) kept;
       },
       λ all. let y = r.keeps [] in whole_by (Passing s.medium) talk r.heard r.after y.0 (perfect (one number_of) talk (ends_of r.heard ++ []) ch) r.ending all y.2,

@@ -13,8 +13,7 @@ ghost use Rattle.law_lane.specs.Lossless.{NoLoss};
 ///
 /// Heard to its end, its events are those of the perfect run, and the cards executed exactly the commands of that run,
 /// each once and in order. Where a link fails, one wished command has no response: the events are those before it, and
-/// the cards executed the commands before it, and perhaps this one; and its last hearing was the third bad one since the
-/// reader's last toggle. No link's rules are broken.
+/// the cards executed the commands before it, and perhaps this one. No link's rules are broken.
 ///
 /// The field is lawful and no two cards have the same number; the talk sends commands alone, and these to a card that was
 /// found and not closed; it closes no other card's presentation; and the empty log has room for more records than the

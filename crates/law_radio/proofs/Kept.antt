@@ -6,7 +6,7 @@ use Rattle.ep_base.specs.Talk.{Talk, Say, Poll, Command, Close, Result, Round, R
 use Rattle.ep_base.specs.TransportRun.{HearEnd, Whole, AtLink, AtBreach, AtDevice, said_for}
 use Rattle.ep_base.specs.Perfect.{Perfect, gave, executes}
 use Rattle.ep_base.specs.Field.{Field}
-use Rattle.law_radio.specs.OverRadio.{EndsInLink, AtThird, Keeps}
+use Rattle.law_radio.specs.OverRadio.{EndsInLink, Keeps}
 
 -- Heard to the end: the perfect run has the same results.
 pub record Same (talk : Talk) (heard : List Result) (log : List (ℕ × List ℕ)) (p : Perfect) : Type 0 where
@@ -122,23 +122,22 @@ answer_kept Third n c a next heard log p AtLink (r, third) = (
 answer_kept Third n c a next heard log p AtBreach r = r
 answer_kept Third n c a next heard log p AtDevice r = r
 
--- a link failed so, and it can't have where Q holds
-pub record Fails (Q : Type 0) (u : Field) (c : List ℕ) : Type 0 where
-  pub third : AtThird u c
+-- a link can't have failed where Q holds
+pub record Fails (Q : Type 0) (c : List ℕ) : Type 0 where
   pub never : Q → ⊥
 
-pub keeps : (Q : Type 0) (talk : Talk) (heard : List Result) (u : Field) (p : Perfect) (ending : HearEnd) → Kept (Fails Q u) talk heard u.log p ending → Keeps talk heard u p ending
+pub keeps : (Q : Type 0) (talk : Talk) (heard : List Result) (u : Field) (p : Perfect) (ending : HearEnd) → Kept (Fails Q) talk heard u.log p ending → Keeps talk heard u p ending
 keeps Q talk heard u p Whole r = record {
   events = append-nil (so_far talk heard).events ∙ ap (λ (y : List Result). (so_far talk y).events) (sym r.results);
   executed = r.executed;
   over = r.over;
 }
-keeps Q talk heard u p AtLink r = (r.0, r.1.third)
+keeps Q talk heard u p AtLink r = r.0
 keeps Q talk heard u p AtBreach r = r
 keeps Q talk heard u p AtDevice r = r
 
 -- where Q holds it is whole
-pub whole_by : (Q : Type 0) (talk : Talk) (heard : List Result) (u : Field) (log : List (ℕ × List ℕ)) (p : Perfect) (ending : HearEnd) → Q → Kept (Fails Q u) talk heard log p ending → ending ≡ Whole
+pub whole_by : (Q : Type 0) (talk : Talk) (heard : List Result) (u : Field) (log : List (ℕ × List ℕ)) (p : Perfect) (ending : HearEnd) → Q → Kept (Fails Q) talk heard log p ending → ending ≡ Whole
 whole_by Q talk heard u log p Whole q r = refl
 whole_by Q talk heard u log p AtLink q r = absurd (r.1.never q)
 whole_by Q talk heard u log p AtBreach q r = absurd r

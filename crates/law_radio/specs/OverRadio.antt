@@ -3,11 +3,8 @@ use Rattle.std.specs.Prelude.{◌≡◌, ◌≢◌, ◌⊎◌, ℕ, suc, ◌<◌
 use Rattle.ep_base.specs.Hearing.{Activated}
 use Rattle.ep_base.specs.Apdu.{is_command}
 use Rattle.ep_base.specs.CardAnswer.{Image}
-use Rattle.ep_base.specs.Medium.{told}
-use Rattle.ep_base.specs.Field.{Placed, Field, field}
-use Rattle.ep_base.specs.Block.{is_bad, count}
-use Rattle.ep_base.specs.ReaderEnd.{Reader, Spends}
-use Rattle.ep_base.specs.Radio.{OpenLink, Radio, Comes}
+use Rattle.ep_base.specs.Field.{Placed, Field}
+use Rattle.ep_base.specs.Radio.{Radio}
 use Rattle.ep_base.specs.Said.{Said, Apdu, EndLink}
 use Rattle.ep_base.specs.Talk.{Talk, Result, Round, Response, Closed, Commands, Nothing, so_far, IsLegal}
 use Rattle.ep_base.specs.TransportRun.{HearEnd, Whole, AtLink, AtBreach, AtDevice, said_for}
@@ -66,15 +63,6 @@ pub record IsWhole (talk : Talk) (heard : List Result) (log : List (ℕ × List 
   pub executed : log ≡ p.commands
   pub over : (so_far talk heard).wish ≡ Nothing
 
--- A command over an open link of the field came to this field, and its last hearing was the third bad one since the reader's last toggle, or since
--- the link was opened (this project's profile).
-pub record AtThird (u : Field) (command : List ℕ) : Type 0 where
-  pub link : OpenLink
-  pub before : Field
-  pub reader : Reader
-  pub comes : Comes (told field) link command before (Spends reader) u
-  pub third : count is_bad reader.since ≡ 3
-
 -- How many responses are among the results.
 abbrev pub responses : List Result → ℕ
 responses [] = 0
@@ -99,9 +87,9 @@ pub record EndsInLink (talk : Talk) (results : List Result) (events : List Said)
   pub all_earlier : length earlier ≡ responses results
   pub executed : (log ≡ earlier) ⊎ (log ≡ earlier ++ (number, command) ∷ [])
 
--- By what ended the hearing: it came to its end, or a link failed at a command's third bad hearing, and nothing else comes (this project's own).
+-- By what ended the hearing: it came to its end, or a link failed, and nothing else comes (this project's own).
 abbrev pub Keeps : Talk → List Result → Field → Perfect → HearEnd → Type 0
 Keeps talk heard u p Whole = IsWhole talk heard u.log p
-Keeps talk heard u p AtLink = (e : EndsInLink talk heard (said_for talk heard AtLink) u.log p) × AtThird u e.command
+Keeps talk heard u p AtLink = EndsInLink talk heard (said_for talk heard AtLink) u.log p
 Keeps talk heard u p AtBreach = ⊥
 Keeps talk heard u p AtDevice = ⊥

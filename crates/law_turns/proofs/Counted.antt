@@ -16,7 +16,7 @@ use Rattle.law_link.specs.Bounds.{IsEnded, toggle, toggles_in}
 use Rattle.law_link.specs.Bounds as links
 use Rattle.law_link.proofs.Bounding.{bounded_toggles, few_toggles, command_ends}
 use Rattle.law_run.specs.Bounds.{AtMost, starts_left, AtMostStarts}
-use Rattle.law_transaction.proofs.Imaging.{images_keep}
+use Rattle.law_wire.proofs.Limits.{images_keep}
 use Rattle.law_round.proofs.Presenting.{either, when}
 use Rattle.law_round.proofs.Counting.{left, Leveled, Leaves, leaves, one_left}
 use Rattle.law_round.proofs.Sizing.{round_sized}

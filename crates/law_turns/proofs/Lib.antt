@@ -5,11 +5,13 @@ pub mod Counting
 pub mod Ending
 pub mod Growing
 pub mod Keeping
+pub mod Least
 pub mod Logging
 pub mod Making
 pub mod Ordering
 pub mod Owning
 pub mod Stepping
 pub mod Telling
+pub mod Thirds
 pub mod Worked
 pub mod Writing

@@ -15,13 +15,12 @@ use Rattle.ep_base.specs.Radio.{OpenLink}
 use Rattle.ep_base.specs.Images.{Rules, stored}
 use Rattle.ep_base.specs.Perfect.{Channel, Perfect, at_command, perfect, channel, presents}
 use Rattle.ep_base.specs.Direct.{image_rules}
-use Rattle.ep_base.specs.Course.{ends_of}
+use Rattle.ep_base.specs.Talk.{ends_of}
 use Rattle.ep_base.specs.Talk.{Talk, Over, Say, Poll, Command, Close, Result, Round, Response, Closed, so_far}
 use Rattle.ep_base.specs.TransportRun.{HearEnd, Whole, AtLink, AtBreach, AtDevice}
 use Rattle.law_run.specs.Bounds.{AtMost, apdus, commands_wished, AreShortResults}
 use Rattle.law_run.proofs.Bounding.{few_apdus_lem}
-use Rattle.law_transaction.specs.Law.{responses}
-use Rattle.law_radio.specs.OverRadio.{Keeps}
+use Rattle.law_radio.specs.OverRadio.{Keeps, responses}
 use Rattle.law_lane.specs.Hearing.{HearsRounds, HearsTurn}
 use Rattle.law_lane.specs.Standing.{Standing, Doing, Rounds, Carries, Closing, Stopped, Astray, asked_by, link_by, after_stage, after_turn, hears_by}
 use Rattle.law_lane.specs.Exchanges.{Lane, field_answers, or_silence, opened_lane, goes_by, lane_step, lane_after}

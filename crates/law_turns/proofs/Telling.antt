@@ -221,7 +221,7 @@ module _ (fsdi lane txn : ℕ) (talk : Talk) where
             ap (λ x. said l ++ event_lines lane txn x) new ∙ (sym (flat_map-append (line_of lane txn) old grown.0) ∙ ap (λ x. event_lines lane txn x) (sym is))
       ] refl
 
-  exchanges_tell_events : (n : ℕ) (l : Lane) → said l ++ exchanges_text false fsdi lane txn talk n l ≡ said (lane_after fsdi talk n l)
+  pub exchanges_tell_events : (n : ℕ) (l : Lane) → said l ++ exchanges_text false fsdi lane txn talk n l ≡ said (lane_after fsdi talk n l)
   exchanges_tell_events zero l = append-nil (said l)
   exchanges_tell_events (suc n) l =
       let next = lane_step fsdi talk l in

@@ -1,23 +1,32 @@
--- The transactions of a lane keep to the perfect run (this project's own).
-use Rattle.std.specs.Prelude.{◌≡◌, ℕ, ◌+◌, Bool, false, List, [], ◌∷◌, ◌++◌, None}
+-- What is promised of one transaction, against its perfect run (this project's own).
+use Rattle.std.specs.Prelude.{◌≡◌, ◌≢◌, ◌⊎◌, ℕ, ◌<◌, false, List, ◌++◌, None}
+use Rattle.ep_base.specs.Air.{AllPass}
 use Rattle.ep_base.specs.Hearing.{Activated, RoundEnd}
 use Rattle.ep_base.specs.CardAnswer.{Image}
 use Rattle.ep_base.specs.Talk.{ends_of}
 use Rattle.ep_base.specs.Direct.{image_rules}
 use Rattle.ep_base.specs.Field.{Field}
-use Rattle.ep_base.specs.Perfect.{perfect, channel}
+use Rattle.ep_base.specs.Perfect.{Perfect, perfect, channel}
 use Rattle.ep_base.specs.Radio.{Radio}
-use Rattle.ep_base.specs.TransportRun.{HearEnd}
-use Rattle.law_radio.specs.OverRadio.{IsNew, IsCarried, Keeps}
+use Rattle.ep_base.specs.Said.{Said}
+use Rattle.ep_base.specs.Talk.{Nothing, so_far}
+use Rattle.ep_base.specs.TransportRun.{HearEnd, Whole, AtLink}
+use Rattle.law_radio.specs.Opening.{number_in, image_in}
+use Rattle.law_radio.specs.OverRadio.{EndsInLink, IsNew, IsCarried}
 use Rattle.law_radio.specs.Closings.{ClosesFound}
-use Rattle.law_lane.specs.Standing.{Stopped}
+use Rattle.law_lane.specs.Standing.{Stopped, events_of}
 use Rattle.law_turns.specs.LaneText.{Job}
-use Rattle.law_turns.specs.Telling.{job_after, IsOverAt, whole_text, AreTold}
+use Rattle.law_turns.specs.Telling.{job_after, IsOverAt}
+use Rattle.law_turns.specs.Thirds.{AsksAt, FailsAtThird, FailsOnlyAtThird, TwoBadAtMost}
 
 -- The cards of a transaction: the number of each by what a round tells of it, and the images by their numbers (this project's own).
 pub record Cards : Type 0 where
   pub number_of : Activated → ℕ
   pub images : ℕ → Image
+
+-- The numbers and the images of a transaction's cards, as they are found in its field (this project's own).
+abbrev pub cards_in : Job → Cards
+cards_in j = record { number_of = number_in j.field.cards; images = image_in j.field.cards }
 
 -- A radio over the field of a transaction, before its first presentation (this project's own).
 abbrev pub radio_of : ℕ → Job → Radio Field
@@ -30,34 +39,46 @@ pub record IsReady (fsdi : ℕ) (j : Job) (cards : Cards) : Type 0 where
   pub carried : IsCarried j.talk j.field.room
   pub closes : ClosesFound false j.talk
 
--- And so of each of a lane's transactions (this project's own).
-abbrev pub AreReady : ℕ → List Job → List Cards → Type 0
-AreReady fsdi [] [] = Unit {0}
-AreReady fsdi [] (c ∷ cs) = ⊥
-AreReady fsdi (j ∷ js) [] = ⊥
-AreReady fsdi (j ∷ js) (c ∷ cs) = IsReady fsdi j c × AreReady fsdi js cs
+-- The events of a transaction after so many exchanges over its own field, the end of a failed link among them (this project's own).
+abbrev pub events_at : (fsdi : ℕ) → Job → (n : ℕ) → List Said
+events_at fsdi j n = events_of j.talk (job_after fsdi j n).standing
 
--- A transaction is over after so many exchanges, and keeps to the perfect run over its cards, for the ends of its rounds and whatever ends come
--- later (this project's own).
-pub record KeepsTo (fsdi : ℕ) (j : Job) (cards : Cards) (n : ℕ) : Type 0 where
-  pub over : IsOverAt fsdi j n
+-- What its cards executed until then: the card and the command of each execution, in order (this project's own).
+abbrev pub log_at : (fsdi : ℕ) → Job → (n : ℕ) → List (ℕ × List ℕ)
+log_at fsdi j n = (job_after fsdi j n).field.log
+
+-- Its perfect run over these cards, for the ends that its rounds had in so many exchanges over its own field, and for later ones (this project's own).
+abbrev pub perfect_at : (fsdi : ℕ) → Job → Cards → (n : ℕ) → (later : List RoundEnd) → Perfect
+perfect_at fsdi j cards n later =
+    perfect (image_rules cards.number_of) j.talk (ends_of (job_after fsdi j n).standing.results ++ later) (channel cards.images)
+
+-- The events of a perfect run (this project's own).
+abbrev pub perfect_said : Job → Perfect → List Said
+perfect_said j p = (so_far j.talk p.results).events
+
+-- What is promised of one transaction over its own field, which is over after exactly so many exchanges, whatever becomes of its frames. Where no
+-- link fails, it reports the events of the perfect run, and the cards executed the commands of that run, each once and in order; nothing is wished
+-- any more. Where a link fails, one wished command has no response: the events are those before it, and the cards executed the commands before it,
+-- and perhaps this one. A link fails with the third bad exchange of an open command, and only so. Nothing else ends a transaction, and where every
+-- frame passes no link fails. The perfect run is that for the ends of its rounds, whatever ends come later (this project's own).
+pub record TransactionPromise (fsdi : ℕ) (j : Job) (cards : Cards) (count : ℕ) : Type 0 where
+  pub goes_on : (n : ℕ) → n < count → AsksAt fsdi j n
+  pub over : IsOverAt fsdi j count
   pub ending : HearEnd
-  pub stopped : (job_after fsdi j n).standing.doing ≡ Stopped ending
-  pub keeps : (later : List RoundEnd) →
-      Keeps j.talk (job_after fsdi j n).standing.results (job_after fsdi j n).field
-      (perfect (image_rules cards.number_of) j.talk (ends_of (job_after fsdi j n).standing.results ++ later) (channel cards.images)) ending
+  pub stopped : (job_after fsdi j count).standing.doing ≡ Stopped ending
+  pub reported : ending ≢ AtLink → (later : List RoundEnd) → events_at fsdi j count ≡ perfect_said j (perfect_at fsdi j cards count later)
+  pub executed : ending ≢ AtLink → (later : List RoundEnd) → log_at fsdi j count ≡ (perfect_at fsdi j cards count later).commands
+  pub finished : ending ≢ AtLink → (so_far j.talk (job_after fsdi j count).standing.results).wish ≡ Nothing
+  pub first_part : ending ≡ AtLink → (later : List RoundEnd) →
+      EndsInLink j.talk (job_after fsdi j count).standing.results (events_at fsdi j count) (log_at fsdi j count) (perfect_at fsdi j cards count later)
+  pub third : FailsAtThird fsdi j
+  pub only_third : FailsOnlyAtThird fsdi j
+  pub at_most_two : TwoBadAtMost fsdi j
+  pub no_breach : (ending ≡ Whole) ⊎ (ending ≡ AtLink)
+  pub lossless : AllPass j.field.air.fates → ending ≡ Whole
 
--- The text is that of these transactions, each of which keeps to the perfect run; the first has this number (this project's own).
-abbrev pub AreKept : Bool → (fsdi lane txn : ℕ) → List Job → List Cards → List ℕ → Type 0
-AreKept traced fsdi lane txn [] [] text = text ≡ []
-AreKept traced fsdi lane txn [] (c ∷ cs) text = ⊥
-AreKept traced fsdi lane txn (j ∷ js) [] text = ⊥
-AreKept traced fsdi lane txn (j ∷ js) (c ∷ cs) text =
-    (n : ℕ) × (rest : List ℕ)
-    × KeepsTo fsdi j c n × (text ≡ whole_text traced fsdi lane txn j n ++ rest) × AreKept traced fsdi lane (txn + 1) js cs rest
-
--- What tells such transactions tells of transactions that keep to the perfect run (this project's own).
-abbrev pub ToldKeep : Type 0
-ToldKeep =
-    (traced : Bool) (fsdi lane : ℕ) (jobs : List Job) (cards : List Cards) (text : List ℕ) → AreReady fsdi jobs cards →
-    AreTold traced fsdi lane 1 jobs text → AreKept traced fsdi lane 1 jobs cards text
+-- A transaction over a new field of these cards that is over after some count of exchanges has the promise (this project's own).
+abbrev pub TransactionsKeep : Type 0
+TransactionsKeep =
+    (fsdi : ℕ) (j : Job) (cards : Cards) (n : ℕ) → IsReady fsdi j cards → IsOverAt fsdi j n →
+    (count : ℕ) × TransactionPromise fsdi j cards count × (job_after fsdi j count ≡ job_after fsdi j n)

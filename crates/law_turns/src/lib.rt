@@ -9,10 +9,12 @@ ghost use Rattle.law_turns.specs.Bounds.{AreUnderWay, BoundedCount};
 ghost use Rattle.law_turns.specs.Counting.{EveryExchangeCounts, TransactionsAreBounded};
 ghost use Rattle.law_turns.specs.Ending.{OneEnd, RunsEnd, RunsEndWithin};
 ghost use Rattle.law_turns.specs.Growing.{RunsEndInMost, RunsStay, TextsGrow};
-ghost use Rattle.law_turns.specs.Keeping.{ToldKeep};
+ghost use Rattle.law_turns.specs.Keeping.{TransactionsKeep};
+ghost use Rattle.law_turns.specs.LanePromise.{ToldKeep};
 ghost use Rattle.law_turns.specs.Logs.{LogsFit};
 ghost use Rattle.law_turns.specs.Pieces.{PiecesAreText};
 ghost use Rattle.law_turns.specs.Telling.{KeepsInRun, RunsTell, TellsReport};
+ghost use Rattle.law_turns.specs.Thirds.{FailsExactlyAtThird};
 ghost use Rattle.law_turns.specs.Turning.{TurnsAreLive};
 ghost use Rattle.law_turns.specs.WholeRun.{ProbeSteps};
 
@@ -42,8 +44,25 @@ pub fn runs_tell()
     ensures { RunsTell }
 {}
 
-/// What tells a lane's transactions, each of them over, tells of transactions that keep to the perfect run over their cards,
-/// for the ends of their rounds: as `lanes_keep` of `law_lane` says.
+/// A transaction over a new field of a document's cards that is over has the promise, whatever becomes of its frames, with
+/// the least count of exchanges after which it is over. Where no link fails, its events and its log are those of the
+/// perfect run for the ends of its rounds; where one fails, they are a first part of it, and the command without a response
+/// was executed at most once. Where every frame passes no link fails.
+///
+/// Its log carries the transaction, and it closes the presentation of a found card alone.
+pub fn transactions_keep()
+    ensures { TransactionsKeep }
+{}
+
+/// A link fails exactly with the third bad exchange of an open command since the reader's last toggle, or since the link was
+/// opened, in every transaction over every field.
+pub fn fails_exactly_at_third()
+    ensures { (fsdi : _) (j : _) → FailsExactlyAtThird fsdi j }
+{}
+
+/// What tells a lane's transactions, each of them over, has the promise: each transaction has its own, as
+/// `transactions_keep` says; the text is their lines; without the trace lines these are the report of their events and
+/// logs; and where every frame passes, that of the perfect runs.
 ///
 /// Each is over a new field of a document's cards, which its log carries, and closes the presentation of a found card alone.
 pub fn told_keep()
