@@ -21,6 +21,11 @@ abbrev pub maybe_heard : {E : Type 0} → Result Heard E → Option air.Hearing
 maybe_heard (Ok h) = Some (heard_of h)
 maybe_heard (Err e) = None
 
+-- What is heard where it was written in place, or none where the call failed.
+abbrev pub heard_into : {R E : Type 0} → Result R E → Heard → Option air.Hearing
+heard_into (Ok done) h = Some (heard_of h)
+heard_into (Err e) h = None
+
 -- How a round ends.
 abbrev pub round_end_of : RoundEnd → air.RoundEnd
 round_end_of ends.Empty = air.Empty
