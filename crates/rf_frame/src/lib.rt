@@ -14,7 +14,7 @@ mod table;
 
 pub use air::{Ask, Heard, Sent};
 pub use bursts::{Burst, burst_seen, flip};
-pub use cards::{Activated, CardHear, RoundEnd};
+pub use cards::{Activated, CardDoes, CardHear, RoundEnd};
 pub use checks::check;
 pub use ep_base::{Buf, CardKind, FrameBuf, Wave};
 pub use frames::{copy_frame, good, open_frame, refill, seal};

@@ -13,8 +13,7 @@ fn frame_of(wave: Wave, message: &[u8]) -> FrameBuf
     ensures { result.items ≡ sealed wave message.now }
 {
     let mut frame = FrameBuf::new();
-    frame.try_extend_from_slice(message).unwrap();
-    seal(wave, &mut frame);
+    put_message(wave, message, &mut frame);
     frame
 }
 
