@@ -78,6 +78,16 @@ impl Command {
         self.bytes.as_slice()
     }
 
+    /// Becomes the same command as another one, which takes no memory.
+    pub fn set(&mut self, other: &Command)
+        ensures value { self.new ≡ other.now }
+    {
+        self.bytes.clear();
+        self.bytes
+            .try_extend_from_slice(other.bytes.as_slice())
+            .unwrap();
+    }
+
     /// The same command once more, which takes no memory.
     pub fn copy(&self) -> Command
         ensures { result ≡ self.now }

@@ -71,6 +71,16 @@ impl Response {
         u16::from(high) * 256 + u16::from(low)
     }
 
+    /// Becomes the response with these 2 to 258 bytes, which takes no memory.
+    pub fn set(&mut self, bytes: &[u8])
+        requires least { 2 ≤ length bytes.now }
+        requires most { length bytes.now ≤ 258 }
+        ensures value { self.new ≡ bytes.now }
+    {
+        self.bytes.clear();
+        self.bytes.try_extend_from_slice(bytes).unwrap();
+    }
+
     /// The same response once more, which takes no memory.
     pub fn copy(&self) -> Response
         ensures { result ≡ self.now }

@@ -1,5 +1,6 @@
 -- What a card's end does with a frame, by the rules of the block protocol (this project's own).
 use Rattle.std.specs.Prelude.{◌≡◌, ℕ, Bool, true, false, List, [], ◌∷◌, ◌++◌, Option, Some, None}
+use Rattle.arrayvec.specs.ArrayVec.{ArrayVec}
 use Rattle.ep_base.specs.declared.air.CardKind.{CardKind}
 use Rattle.ep_base.specs.Apdu.{is_command}
 use Rattle.ep_base.specs.Hearing.{wave_of_kind}
@@ -11,6 +12,18 @@ use Rattle.block_card.specs.declared.held.CardNext.{CardNext}
 use Rattle.block_card.specs.declared.held.CardNext.TheVariants.{Mute, Send, Execute}
 use Rattle.block_card.specs.declared.held.Step as S
 use Rattle.block_card.specs.Held.{HeldCard, IsCard, last_shown}
+
+-- What is done, with the frame that was written and the bytes that were taken (this project's own).
+abbrev pub next_of : S.Step → ArrayVec ℕ → List ℕ → CardNext
+next_of S.TheVariants.Mute frame taken = Mute
+next_of S.TheVariants.Send frame taken = Send frame
+next_of S.TheVariants.Execute frame taken = Execute taken
+
+-- The bytes that are executed are a command (this project's own).
+abbrev pub IsReady : S.Step → List ℕ → Type 0
+IsReady S.TheVariants.Mute taken = Unit {0}
+IsReady S.TheVariants.Send taken = Unit {0}
+IsReady S.TheVariants.Execute taken = is_command taken ≡ true
 
 -- The card's answer is this: no block and nothing said, or a block in its frame.
 abbrev pub Says : CardNext → CardKind → Option Block → Type 0

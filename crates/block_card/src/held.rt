@@ -32,14 +32,14 @@ pub(crate) enum Last {
     Deselected,
 }
 
-/// What a block leads to.
-#[derive(Clone, Copy)]
-pub(crate) enum Step {
-    /// Nothing is sent.
+/// What a card does after a frame, where the frame that it sends is written in place.
+#[derive(Clone, Copy, Debug, PartialEq, Eq)]
+pub enum Step {
+    /// It sends nothing.
     Mute,
-    /// The last block is sent.
+    /// It sends its last block.
     Send,
-    /// The bytes that were taken are a whole command, or none.
+    /// It executes the bytes that it took, where they are a command.
     Execute,
 }
 

@@ -9,22 +9,21 @@ ghost use Rattle.block_card.specs.declared.held.Step.TheVariants as steps;
 ghost use Rattle.block_card.specs.declared.held.Last.TheVariants as last;
 ghost use Rattle.block_card.specs.declared.held.CardNext.TheVariants as next;
 ghost use Rattle.block_card.specs.Held.{held_card, last_shown, HasLast};
-ghost use Rattle.block_card.specs.Shows.{Replies, Says};
+ghost use Rattle.block_card.specs.Shows.{IsReady, next_of, Replies, Says};
 
-use crate::held::{CardEnd, CardNext, Last};
+use crate::held::{CardEnd, Last, Step};
 use block_pcb::{Block, encode};
 use ep_base::{FrameBuf, Wave};
 use rf_frame::seal;
 
-// A block in a frame with its check bytes.
-fn frame_of(wave: Wave, block: &Block<'_>) -> FrameBuf
+// Puts a block, in a frame with its check bytes, in place of all that a frame has.
+fn put_block(wave: Wave, block: &Block<'_>, frame: &mut FrameBuf)
     requires { InRange block.now }
-    ensures { result.items ≡ sealed wave (spelled (block_of block.now)) }
+    ensures { frame.new.items ≡ sealed wave (spelled (block_of block.now)) }
 {
-    let mut frame = FrameBuf::new();
-    encode(block, &mut frame);
-    seal(wave, &mut frame);
-    frame
+    frame.clear();
+    encode(block, frame);
+    seal(wave, frame);
 }
 
 impl CardEnd {
@@ -91,21 +90,25 @@ impl CardEnd {
         }
     }
 
-    // The block that was sent last, in its frame.
-    pub(crate) fn last_frame(&self) -> FrameBuf
+    // Puts the block that was sent last, in its frame, in place of all that a frame has.
+    pub(crate) fn put_last(&self, frame: &mut FrameBuf)
         requires { HasLast self.now.last }
-        ensures { Says (next.Send result) self.now.kind (last_shown (held_card self.now)) }
+        ensures { Says (next.Send frame.new) self.now.kind (last_shown (held_card self.now)) }
     {
-        frame_of(self.wave(), &self.last_block())
+        put_block(self.wave(), &self.last_block(), frame);
     }
 
     // Says the block that was sent last, if there is one.
-    pub(crate) fn say_last(&self) -> CardNext
-        ensures { Says result self.now.kind (last_shown (held_card self.now)) }
+    pub(crate) fn say_last(&self, frame: &mut FrameBuf) -> Step
+        ensures says { Says (next_of result frame.new self.now.taken.items) self.now.kind (last_shown (held_card self.now)) }
+        ensures ready { IsReady result self.now.taken.items }
     {
         match self.last {
-            Last::Nothing => CardNext::Mute,
-            _ => CardNext::Send(self.last_frame()),
+            Last::Nothing => Step::Mute,
+            _ => {
+                self.put_last(frame);
+                Step::Send
+            }
         }
     }
 }

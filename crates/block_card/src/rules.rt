@@ -5,11 +5,12 @@ ghost use Rattle.ep_base.specs.CardEnd.{Card, Answer, again, answers};
 ghost use Rattle.block_pcb.specs.Meaning.{block_of};
 ghost use Rattle.block_card.specs.declared.held.Step.TheVariants as steps;
 ghost use Rattle.block_card.specs.Held.{IsCard, held_card, HasLast};
-ghost use Rattle.block_card.specs.Shows.{Replies, StepShows, Shows};
+ghost use Rattle.block_card.specs.Shows.{IsReady, next_of, Replies, StepShows, Shows};
 
-use crate::held::{CardEnd, CardNext, Last, Step};
+use crate::held::{CardEnd, Last, Step};
 use apdu::{Command, Response};
 use block_pcb::Block;
+use ep_base::FrameBuf;
 
 // The answer to bytes that are no command.
 const WRONG_LENGTH: [u8; 2] = [0x67, 0x00];
@@ -159,31 +160,37 @@ impl CardEnd {
     }
 
     // The bytes that were taken as a command; those that are none are answered at once.
-    fn execute(&mut self) -> CardNext
-        ensures by_rules { (c : Card) (block : plain.Block) → StepShows steps.Execute (held_card self.old) c block → Shows result (held_card self.new) c block }
+    #[inline(never)]
+    fn execute(&mut self, frame: &mut FrameBuf) -> Step
+        ensures by_rules { (c : Card) (block : plain.Block) → StepShows steps.Execute (held_card self.old) c block →
+            Shows (next_of result frame.new self.new.taken.items) (held_card self.new) c block }
         ensures kind { self.new.kind ≡ self.old.kind }
         ensures kept { self.new.fsd ≡ self.old.fsd }
+        ensures ready { IsReady result self.new.taken.items }
     {
         match Command::of(self.taken.as_slice()) {
-            Ok(command) => CardNext::Execute(command),
+            Ok(_) => Step::Execute,
             Err(_) => {
                 let response = Response::of(&WRONG_LENGTH).unwrap();
                 self.begin(&response, 0, 1);
-                CardNext::Send(self.last_frame())
+                self.put_last(frame);
+                Step::Send
             }
         }
     }
 
     // Does what a block leads to.
-    pub(crate) fn follow(&mut self, step: Step) -> CardNext
-        ensures by_rules { (c : Card) (block : plain.Block) → StepShows step (held_card self.old) c block → Shows result (held_card self.new) c block }
+    pub(crate) fn follow(&mut self, step: Step, frame: &mut FrameBuf) -> Step
+        ensures by_rules { (c : Card) (block : plain.Block) → StepShows step (held_card self.old) c block →
+            Shows (next_of result frame.new self.new.taken.items) (held_card self.new) c block }
         ensures kind { self.new.kind ≡ self.old.kind }
         ensures kept { self.new.fsd ≡ self.old.fsd }
+        ensures ready { IsReady result self.new.taken.items }
     {
         match step {
-            Step::Mute => CardNext::Mute,
-            Step::Send => self.say_last(),
-            Step::Execute => self.execute(),
+            Step::Mute => Step::Mute,
+            Step::Send => self.say_last(frame),
+            Step::Execute => self.execute(frame),
         }
     }
 }

@@ -3,10 +3,11 @@ use Rattle.std.proofs.Common.{◌≡◌, ℕ, ◌-◌, Bool, true, false, List, 
 use Rattle.std.specs.Prelude.{reverse}
 use Rattle.std.proofs.lemmas.List.{reverse-append}
 use Rattle.ep_base.specs.Hearing.{Asked, Hearing}
-use Rattle.ep_base.specs.Block.{Heard, other, same}
+use Rattle.ep_base.specs.Block.{Block, Heard, other, same}
 use Rattle.ep_base.specs.ReaderEnd.{Reader, Phase, Turn, Asks, Gives, Spends, Breaks, question, asked, begin, reader_hears}
 use Rattle.ep_base.specs.Dialogue.{block_of}
-use Rattle.ep_base.specs.LinkFrames.{LinkSetting, Kept, BreachData, block_ask, heard_block, breach_of}
+use Rattle.ep_base.specs.Spelling.{number_bit}
+use Rattle.ep_base.specs.LinkFrames.{LinkSetting, Kept, BreachData, block_ask, heard_block, breach_of, frame_heard, phase_shown}
 use Rattle.ep_base.specs.LinkEvents.{AreKept, LinkEvent, Begins, Hears, Standing, frame_of, exchange_of, kept_after, then_stands, then_link, standing_from, standing_after}
 use Rattle.ep_base.specs.Carry.{turn_on}
 use Rattle.block_reader.specs.declared.stages.Stage.{Stage}
@@ -17,8 +18,9 @@ use Rattle.block_reader.specs.declared.stages.Step.TheVariants as step
 use Rattle.block_reader.specs.declared.ends.Next.{Next}
 use Rattle.block_reader.specs.declared.ends.Next.TheVariants.{Ask, Done, Failed}
 use Rattle.block_reader.specs.declared.ends.LinkEnd.TheVariants.{Spent, Breach}
+use Rattle.ep_base.specs.declared.blocks.Phase as phases
 use Rattle.block_reader.specs.Counts as counts
-use Rattle.block_reader.specs.Progress.{Course, phase_by, block_due, IsAt, Sends, StepShows}
+use Rattle.block_reader.specs.Progress.{Course, phase_by, block_due, block_from, carried, IsAt, Sends, StepShows}
 use Rattle.block_reader.specs.Stands.{Held, is_open, is_resting, Rests, Asking, StandsAt, StandsWith, StandsFor, Says, Shows}
 
 -- ---- the exchanges that are kept
@@ -52,6 +54,20 @@ open_counted stage.Sending q bad wtx len e c = c
 open_counted stage.Receiving q bad wtx len e c = c
 open_counted stage.Failed q bad wtx len e c = cc
 open_counted stage.Closed q bad wtx len e c = cc
+
+-- the exchange that is kept, whose block is still the same
+abbrev sent_with : LinkSetting → Hearing → Block → Kept
+sent_with set h b = record { sent = frame_of set b; heard = h }
+
+pub kept_as : (old : Held) (e : Course) (r : Reader) (h : Hearing) → carried e ≡ carried old.course → asked r ≡ block_due old.course → sent_with old.set h (block_from old.course.question (carried e)) ≡ exchange_of old.set r h
+kept_as old e r h same is = ap (sent_with old.set h) (ap (block_from old.course.question) same ∙ sym is)
+
+-- the breach is that of the reader
+abbrev shown_by : Course → phases.Phase → Hearing → BreachData
+shown_by mid p h = record { frame = frame_heard h; number = number_bit mid.number; phase = p; wtx = mid.wtx }
+
+pub breach_as : (mid : Course) (p : phases.Phase) (h : Hearing) (q : Reader) → IsAt mid q → p ≡ phase_shown q.phase → shown_by mid p h ≡ breach_of q h
+breach_as mid p h q s is = rw (is, s.number, s.wtx) refl
 
 -- ---- a hearing
 

@@ -70,6 +70,20 @@ NoneGot stage.Receiving got = Unit {0}
 NoneGot stage.Failed got = Unit {0}
 NoneGot stage.Closed got = Unit {0}
 
+-- What the blocks of an open command are made of.
+pub record Carried : Type 0 where
+  pub number : Bool
+  pub card_frame : ℕ
+  pub command : List ℕ
+  pub place : ℕ
+
+abbrev pub carried : Course → Carried
+carried e = record { number = e.number; card_frame = e.card_frame; command = e.command; place = e.place }
+
+-- The block of a question, out of what is carried (this project's own).
+abbrev pub block_from : Question → Carried → Block
+block_from q c = block_by q c.number (c.card_frame - 3) c.command c.place
+
 -- The parts of a progress, one for each part of the state.
 pub record IsAt (e : Course) (r : rules.Reader) : Type 0 where
   pub number : r.number ≡ e.number
@@ -126,6 +140,14 @@ StepShows _ _ _ _ _ = ⊥
 -- What stays at every step.
 abbrev pub Keeps : Progress → Progress → Type 0
 Keeps old new = (new.card_frame ≡ old.card_frame) × (new.frame ≡ old.frame)
+
+-- What was sent before a hearing that leads to no toggle can still be sent (this project's own).
+abbrev pub Repeats : Step → Course → Course → Type 0
+Repeats step.Again old new = carried new ≡ carried old
+Repeats step.Toggled old new = Unit {0}
+Repeats step.Done old new = Unit {0}
+Repeats step.Spent old new = carried new ≡ carried old
+Repeats step.Breach old new = carried new ≡ carried old
 
 -- Whether a step ends the link as spent.
 abbrev pub is_spent : Step → Bool

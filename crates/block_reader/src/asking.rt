@@ -2,17 +2,16 @@
 ghost use Rattle.std.specs.Prelude.{◌≡◌, ◌≤◌, true, []};
 ghost use Rattle.arrayvec.specs.ArrayVec.{array_vec_len};
 ghost use Rattle.ep_base.specs.Apdu.{is_command};
-ghost use Rattle.ep_base.specs.LinkFrames.{block_ask, wait_of};
+ghost use Rattle.ep_base.specs.LinkFrames.{block_ask, block_frame, wait_of};
 ghost use Rattle.ep_base.specs.ReaderEnd as rules;
 ghost use Rattle.block_pcb.specs.Meaning.{block_of, InRange};
-ghost use Rattle.block_reader.specs.Counts.{is_open, spare};
-ghost use Rattle.block_reader.specs.Progress.{block_due, course, IsAt, Keeps, Sends};
+ghost use Rattle.block_reader.specs.Counts.{is_open, spare, IsLawful};
+ghost use Rattle.block_reader.specs.Progress.{block_due, block_from, carried, course, IsAt, Keeps, Sends};
 
 use crate::hearing::wave_of;
 use crate::progress::Progress;
 use crate::stages::{Question, Stage};
 use apdu::{Command, Response};
-use arrayvec::ArrayVec;
 use block_pcb::{Block, encode};
 use ep_base::{CardKind, FrameBuf};
 use rf_frame::{Ask, seal};
@@ -30,32 +29,37 @@ fn waiting(fwi: u8, block: &Block<'_>) -> u32
     }
 }
 
-/// Asks with a block, in a frame of the card's kind.
-pub(crate) fn ask_block(kind: CardKind, fwi: u8, block: &Block<'_>) -> Ask
+/// Puts a block, in a frame of the card's kind, in place of all that a frame has.
+pub(crate) fn put_frame(kind: CardKind, block: &Block<'_>, frame: &mut FrameBuf)
+    requires range { InRange block.now }
+    ensures { frame.new.items ≡ (block_frame kind (block_of block.now)).bytes }
+{
+    frame.clear();
+    encode(block, frame);
+    seal(wave_of(kind), frame);
+}
+
+/// Asks with a block, in a frame of the card's kind, in place of another ask.
+pub(crate) fn put_block(kind: CardKind, fwi: u8, block: &Block<'_>, ask: &mut Ask)
     requires fwi { fwi ≤ 14 }
     requires range { InRange block.now }
-    ensures { result ≡ block_ask kind fwi (block_of block.now) }
+    ensures { ask.new ≡ block_ask kind fwi (block_of block.now) }
 {
-    let wave = wave_of(kind);
-    let mut frame = FrameBuf::new();
-    encode(block, &mut frame);
-    seal(wave, &mut frame);
-    Ask {
-        reset: false,
-        wave,
-        frame,
-        wait: waiting(fwi, block),
-    }
+    ask.reset = false;
+    ask.wave = wave_of(kind);
+    ask.wait = waiting(fwi, block);
+    put_frame(kind, block, &mut ask.frame);
 }
 
 impl Progress {
-    /// The block that is due.
-    pub(crate) fn block(&self) -> Block<'_>
-        ensures block { block_of result ≡ block_due (course self.now) }
+    /// The block of a question.
+    pub(crate) fn block_for(&self, question: Question) -> Block<'_>
+        requires lawful { IsLawful question }
+        ensures block { block_of result ≡ block_from question (carried (course self.now)) }
         ensures range { InRange result }
     {
         let number = u8::from(self.number);
-        match self.question {
+        match question {
             Question::Part => {
                 let size = usize::from(self.card_frame) - 3;
                 let left = self.command.len() - self.place;
@@ -72,6 +76,14 @@ impl Progress {
         }
     }
 
+    /// The block that is due.
+    pub(crate) fn block(&self) -> Block<'_>
+        ensures block { block_of result ≡ block_due (course self.now) }
+        ensures range { InRange result }
+    {
+        self.block_for(self.question)
+    }
+
     /// Begins a command.
     pub(crate) fn begin(&mut self, command: &Command)
         ensures by_rules { (r : rules.Reader) → IsAt (course self.old) r → r.since ≡ [] →
@@ -80,12 +92,14 @@ impl Progress {
         ensures counts { (is_open self.new.stage ≡ true) × (spare self.new.question ≡ 0) × (self.new.bad ≡ self.old.bad) × (self.new.wtx ≡ self.old.wtx) }
         ensures kept { Keeps self.old self.new }
     {
-        self.command = ArrayVec::try_from(command.bytes()).unwrap();
+        self.command.clear();
+        self.command.try_extend_from_slice(command.bytes()).unwrap();
         self.place = 0;
         self.got.clear();
         self.stage = Stage::Sending;
         self.question = Question::Part;
     }
+
     /// The response, where it is whole.
     pub(crate) fn response(&self) -> Response
         requires { 2 ≤ array_vec_len self.now.got }

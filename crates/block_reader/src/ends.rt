@@ -53,6 +53,19 @@ pub enum Next {
     Failed(LinkEnd),
 }
 
+/// What follows a hearing, where the next ask was written in place.
+#[derive(Clone, Copy, Debug, PartialEq, Eq)]
+pub enum Follows {
+    /// The ask that was written is to be sent.
+    Ask,
+    /// The command has its response.
+    Done,
+    /// The link has failed after three bad exchanges.
+    Spent,
+    /// The link has failed in this phase, at a block outside the rules.
+    Breach(Phase),
+}
+
 /// An exchange as a reader's end keeps it.
 #[derive(Debug, Default, Drop)]
 pub struct Kept {

@@ -6,6 +6,7 @@ mod asking;
 mod breaches;
 mod ends;
 mod hearing;
+mod keeping;
 mod progress;
 mod reader_end;
 mod stages;
@@ -13,7 +14,7 @@ mod steps;
 mod taking;
 mod turns;
 
-pub use ends::{Breach, Kept, LinkEnd, Next};
+pub use ends::{Breach, Follows, Kept, LinkEnd, Next};
 pub use ep_base::Phase;
 pub use reader_end::ReaderEnd;
 

@@ -4,7 +4,7 @@ ghost use Rattle.arrayvec.specs.ArrayVec.{array_vec_len};
 ghost use Rattle.ep_base.specs.Block as rule;
 ghost use Rattle.ep_base.specs.ReaderEnd as rules;
 ghost use Rattle.block_reader.specs.Counts.{ahead, AheadAfter, Counted, CountsAfter, is_open};
-ghost use Rattle.block_reader.specs.Progress.{course, is_spent, IsWhole, Keeps, Sends, StepShows};
+ghost use Rattle.block_reader.specs.Progress.{course, is_spent, IsWhole, Keeps, Repeats, Sends, StepShows};
 ghost use Rattle.block_reader.specs.Said.{said_of, SaysInRange};
 
 use crate::hearing::Said;
@@ -20,6 +20,7 @@ impl Progress {
         ensures counts { (len : ℕ) → Counted self.old.question self.old.bad self.old.wtx len → CountsAfter result self.new.stage self.new.question self.new.bad self.new.wtx len }
         ensures ahead { AheadAfter result (ahead self.old.stage (array_vec_len self.old.command) self.old.place (array_vec_len self.old.got)) (ahead self.new.stage (array_vec_len self.new.command) self.new.place (array_vec_len self.new.got)) }
         ensures kept { Keeps self.old self.new }
+        ensures repeats { Repeats result (course self.old) (course self.new) }
         ensures spent { is_spent result ≡ nat_le 2 self.old.bad }
         ensures whole { IsWhole result self.new.got.items }
     {
@@ -44,6 +45,7 @@ impl Progress {
         ensures counts { (len : ℕ) → Counted self.old.question self.old.bad self.old.wtx len → CountsAfter result self.new.stage self.new.question self.new.bad self.new.wtx len }
         ensures ahead { AheadAfter result (ahead self.old.stage (array_vec_len self.old.command) self.old.place (array_vec_len self.old.got)) (ahead self.new.stage (array_vec_len self.new.command) self.new.place (array_vec_len self.new.got)) }
         ensures kept { Keeps self.old self.new }
+        ensures repeats { Repeats result (course self.old) (course self.new) }
         ensures spent { is_spent result ≡ false }
         ensures whole { IsWhole result self.new.got.items }
     {
@@ -64,6 +66,7 @@ impl Progress {
         ensures counts { (len : ℕ) → Counted self.old.question self.old.bad self.old.wtx len → CountsAfter result self.new.stage self.new.question self.new.bad self.new.wtx len }
         ensures ahead { AheadAfter result (ahead self.old.stage (array_vec_len self.old.command) self.old.place (array_vec_len self.old.got)) (ahead self.new.stage (array_vec_len self.new.command) self.new.place (array_vec_len self.new.got)) }
         ensures kept { Keeps self.old self.new }
+        ensures repeats { Repeats result (course self.old) (course self.new) }
         ensures spent { is_spent result ≡ false }
         ensures whole { IsWhole result self.new.got.items }
     {
@@ -103,6 +106,7 @@ impl Progress {
         ensures counts { (len : ℕ) → Counted self.old.question self.old.bad self.old.wtx len → CountsAfter result self.new.stage self.new.question self.new.bad self.new.wtx len }
         ensures ahead { AheadAfter result (ahead self.old.stage (array_vec_len self.old.command) self.old.place (array_vec_len self.old.got)) (ahead self.new.stage (array_vec_len self.new.command) self.new.place (array_vec_len self.new.got)) }
         ensures kept { Keeps self.old self.new }
+        ensures repeats { Repeats result (course self.old) (course self.new) }
         ensures spent { is_spent result ≡ (rule.is_bad (said_of said.entry) && nat_le 2 self.old.bad) }
         ensures whole { IsWhole result self.new.got.items }
     {

@@ -1,5 +1,5 @@
 -- What the values of the air mean, in plain data.
-use Rattle.std.specs.Prelude.{ℕ, List, Option, Some, None, Result, Ok, Err}
+use Rattle.std.specs.Prelude.{ℕ, Bool, true, false, List, Option, Some, None, Result, Ok, Err}
 use Rattle.std.specs.Borrow.{Bor}
 use Rattle.ep_base.specs.Hearing as air
 use Rattle.rf_frame.specs.declared.air.Heard.{Heard}
@@ -8,6 +8,8 @@ use Rattle.rf_frame.specs.declared.cards.RoundEnd.{RoundEnd}
 use Rattle.rf_frame.specs.declared.cards.RoundEnd.TheVariants as ends
 use Rattle.rf_frame.specs.declared.cards.CardHear.{CardHear}
 use Rattle.rf_frame.specs.declared.cards.CardHear.TheVariants as hears
+use Rattle.rf_frame.specs.declared.cards.CardDoes.{CardDoes}
+use Rattle.rf_frame.specs.declared.cards.CardDoes.TheVariants as does
 
 -- What is heard.
 abbrev pub heard_of : Heard → air.Hearing
@@ -20,6 +22,11 @@ heard_of (heard.Frame wave bytes) = air.Frame wave bytes.items
 abbrev pub maybe_heard : {E : Type 0} → Result Heard E → Option air.Hearing
 maybe_heard (Ok h) = Some (heard_of h)
 maybe_heard (Err e) = None
+
+-- What is heard where it was written in place, or none where the call failed.
+abbrev pub heard_into : {R E : Type 0} → Result R E → Heard → Option air.Hearing
+heard_into (Ok done) h = Some (heard_of h)
+heard_into (Err e) h = None
 
 -- How a round ends.
 abbrev pub round_end_of : RoundEnd → air.RoundEnd
@@ -40,6 +47,18 @@ card_hear_of hears.Mute = air.Mute
 card_hear_of (hears.Send answer) = air.Sends answer
 card_hear_of (hears.Opened answer fsd) = air.Opens answer fsd
 card_hear_of hears.Passed = air.Passes
+
+-- What a card does with a frame, by what it wrote (this project's own).
+abbrev pub reply_of : CardDoes → air.Framed → air.CardReply
+reply_of does.Mute answer = air.Mute
+reply_of does.Send answer = air.Sends answer
+reply_of (does.Opened fsd) answer = air.Opens answer fsd
+reply_of does.Passed answer = air.Passes
+
+-- The answer that was written, if there is one (this project's own).
+abbrev pub answer_if : Bool → air.Framed → Option air.Framed
+answer_if true answer = Some answer
+answer_if false answer = None
 
 -- An awaited answer: the message that it lends, or the end of the round.
 abbrev pub awaited_of : Result (Bor (List ℕ)) RoundEnd → air.Awaited

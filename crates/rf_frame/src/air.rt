@@ -1,9 +1,11 @@
 //! What is asked and heard in one exchange.
-ghost use Rattle.std.specs.Prelude.{◌≡◌};
+ghost use Rattle.std.specs.Prelude.{◌≡◌, false, []};
+ghost use Rattle.ep_base.specs.declared.air.Wave.TheVariants as waves;
+ghost use Rattle.rf_frame.specs.declared.air.Heard.TheVariants as variants;
 ghost use Rattle.ep_base.specs.Hearing.{is_silent as silent};
 ghost use Rattle.rf_frame.specs.Meaning.{heard_of};
 
-use crate::copy_frame;
+use crate::{copy_frame, refill};
 use ep_base::{FrameBuf, Wave};
 use std::marker::Model;
 
@@ -43,6 +45,45 @@ impl Heard {
         match self {
             Heard::Silence => true,
             Heard::Noise | Heard::Overlap | Heard::Frame { .. } => false,
+        }
+    }
+
+    /// Becomes the same as another one. This takes no memory.
+    pub fn set(&mut self, other: &Heard)
+        ensures same { self.new ≡ other.now }
+    {
+        match other {
+            Heard::Silence => self.set_silence(),
+            Heard::Noise => *self = Heard::Noise,
+            Heard::Overlap => *self = Heard::Overlap,
+            Heard::Frame { wave, bytes } => self.set_frame(*wave, bytes),
+        }
+    }
+
+    /// Becomes nothing. This takes no memory.
+    pub fn set_silence(&mut self)
+        ensures silence { self.new ≡ variants.Silence }
+    {
+        if !self.is_silent() {
+            *self = Heard::Silence;
+        }
+    }
+
+    /// Becomes a frame with these bytes. This takes no memory.
+    pub fn set_frame(&mut self, wave: Wave, frame: &FrameBuf)
+        ensures frame { self.new ≡ variants.Frame wave frame.now }
+    {
+        match self {
+            Heard::Frame { wave: sent, bytes } => {
+                *sent = wave;
+                refill(bytes, frame.as_slice());
+            }
+            Heard::Silence | Heard::Noise | Heard::Overlap => {
+                *self = Heard::Frame {
+                    wave,
+                    bytes: copy_frame(frame),
+                };
+            }
         }
     }
 
@@ -86,6 +127,18 @@ impl Model for Ask {
 }
 
 impl Ask {
+    /// What stands where nothing was asked yet: no reset, wave `A`, no bytes and the waiting number 0.
+    pub fn blank() -> Ask
+        ensures value { result ≡ record { reset = false; wave = waves.A; bytes = []; wait = 0 } }
+    {
+        Ask {
+            reset: false,
+            wave: Wave::A,
+            frame: FrameBuf::new(),
+            wait: 0,
+        }
+    }
+
     /// The same again. This takes no memory.
     pub fn copy(&self) -> Ask
         ensures { result ≡ self.now }
@@ -119,6 +172,24 @@ impl Model for Sent {
 }
 
 impl Sent {
+    /// What stands where nothing was sent yet: wave `A` and no bytes.
+    pub fn blank() -> Sent
+        ensures value { result ≡ record { wave = waves.A; bytes = [] } }
+    {
+        Sent {
+            wave: Wave::A,
+            frame: FrameBuf::new(),
+        }
+    }
+
+    /// Becomes the same as another one. This takes no memory.
+    pub fn set(&mut self, other: &Sent)
+        ensures same { self.new ≡ other.now }
+    {
+        self.wave = other.wave;
+        refill(&mut self.frame, other.frame.as_slice());
+    }
+
     /// The same again. This takes no memory.
     pub fn copy(&self) -> Sent
         ensures { result ≡ self.now }

@@ -1,5 +1,6 @@
 //! Cards as a reader finds them, and what a card does with a frame.
 ghost use Rattle.std.specs.Prelude.{◌≡◌};
+ghost use Rattle.rf_frame.specs.Meaning.{card_hear_of, reply_of};
 
 use crate::Sent;
 use arrayvec::ArrayVec;
@@ -114,6 +115,36 @@ impl CardHear {
                 fsd: *fsd,
             },
             CardHear::Passed => CardHear::Passed,
+        }
+    }
+}
+
+/// What a card does with a frame outside the block protocol, where what it sends was written in place.
+#[derive(Clone, Copy, Debug, PartialEq, Eq)]
+pub enum CardDoes {
+    /// It gives no answer.
+    Mute,
+    /// It sends what was written.
+    Send,
+    /// It answers RATS or ATTRIB with what was written, and the block protocol begins.
+    Opened {
+        /// The size of the frames that the reader takes, in bytes.
+        fsd: u16,
+    },
+    /// The card is in the block protocol, and the frame has the wave of its kind, damaged or not.
+    Passed,
+}
+
+impl CardDoes {
+    /// The same with what was written.
+    pub fn with(self, answer: Sent) -> CardHear
+        ensures value { card_hear_of result ≡ reply_of self answer }
+    {
+        match self {
+            CardDoes::Mute => CardHear::Mute,
+            CardDoes::Send => CardHear::Send(answer),
+            CardDoes::Opened { fsd } => CardHear::Opened { answer, fsd },
+            CardDoes::Passed => CardHear::Passed,
         }
     }
 }

@@ -1,30 +1,17 @@
-//! The check of a message, bit by bit.
+//! The check of a message, a byte a step by a table (ISO/IEC 14443-3).
 ghost use Rattle.std.specs.Prelude.{◌≡◌};
-ghost use Rattle.ep_base.specs.Check.{register_step, register_after, low_bits, sent_bits};
+ghost use Rattle.ep_base.specs.Check.{register_after, low_bits, sent_bits};
 ghost use Rattle.ep_base.specs.Frame.{check_of};
 
+use crate::table::word;
 use ep_base::Wave;
 
-/// The register after one bit of the message.
-fn take_bit(register: u16, bit: u8) -> u16
-    ensures { result ≡ register_step register bit }
-{
-    let half = register >> 1;
-    if register & 1 == u16::from(bit) {
-        half
-    } else {
-        half ^ 0x8408
-    }
-}
-
 /// The register after the eight bits of a byte, the lowest first.
-fn take_byte(mut register: u16, byte: u8) -> u16
+fn take_byte(register: u16, byte: u8) -> u16
     ensures { result ≡ register_after register (low_bits 8 byte) }
 {
-    for i in 0..8u32 {
-        register = take_bit(register, (byte >> i) & 1);
-    }
-    register
+    let low = (register & 0xff) as u8;
+    (register >> 8) ^ word(low ^ byte)
 }
 
 /// The register after a message.

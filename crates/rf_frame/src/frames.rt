@@ -1,11 +1,20 @@
 //! Frames with their check bytes.
-ghost use Rattle.std.specs.Prelude.{◌≡◌, ◌≤◌};
+ghost use Rattle.std.specs.Prelude.{◌≡◌, ◌≤◌, length};
 ghost use Rattle.std.specs.Option.{option_copied};
 ghost use Rattle.arrayvec.specs.ArrayVec.{array_vec_len};
 ghost use Rattle.ep_base.specs.Frame.{is_good, ends_in_check, sealed, opened};
 
 use crate::check;
 use ep_base::{FrameBuf, Wave};
+
+/// Puts these bytes, at most 256, in place of all that a frame has. This takes no memory.
+pub fn refill(frame: &mut FrameBuf, bytes: &[u8])
+    requires { length bytes.now ≤ 256 }
+    ensures { frame.new.items ≡ bytes.now }
+{
+    frame.clear();
+    frame.try_extend_from_slice(bytes).unwrap();
+}
 
 /// The same frame again. This takes no memory.
 pub fn copy_frame(frame: &FrameBuf) -> FrameBuf

@@ -4,7 +4,7 @@ ghost use Rattle.ep_base.specs.Frame.{sealed};
 ghost use Rattle.ep_base.specs.Hearing.{asks, framed, awaited};
 ghost use Rattle.rf_frame.specs.Meaning.{heard_of, awaited_of};
 
-use crate::{Ask, Heard, RoundEnd, Sent, open_frame, seal};
+use crate::{Ask, Heard, RoundEnd, Sent, open_frame, refill, seal};
 use ep_base::{FrameBuf, Wave};
 
 /// A message of at most 254 bytes as a frame of this wave.
@@ -13,9 +13,17 @@ fn frame_of(wave: Wave, message: &[u8]) -> FrameBuf
     ensures { result.items ≡ sealed wave message.now }
 {
     let mut frame = FrameBuf::new();
-    frame.try_extend_from_slice(message).unwrap();
-    seal(wave, &mut frame);
+    put_message(wave, message, &mut frame);
     frame
+}
+
+/// Puts a message of at most 254 bytes, as a frame of this wave, in place of all that a frame has.
+pub fn put_message(wave: Wave, message: &[u8], frame: &mut FrameBuf)
+    requires { length message.now ≤ 254 }
+    ensures { frame.new.items ≡ sealed wave message.now }
+{
+    refill(frame, message);
+    seal(wave, frame);
 }
 
 /// Asks with a message of at most 254 bytes in a frame of this wave, without a reset and with the waiting number 0.
@@ -31,6 +39,17 @@ pub fn ask_message(wave: Wave, message: &[u8]) -> Ask
     }
 }
 
+/// Writes the same ask in place of another.
+pub fn put_ask(wave: Wave, message: &[u8], ask: &mut Ask)
+    requires { length message.now ≤ 254 }
+    ensures { ask.new ≡ asks wave message.now }
+{
+    ask.reset = false;
+    ask.wave = wave;
+    ask.wait = 0;
+    put_message(wave, message, &mut ask.frame);
+}
+
 /// Sends a message of at most 254 bytes in a frame of this wave.
 pub fn sent_message(wave: Wave, message: &[u8]) -> Sent
     requires { length message.now ≤ 254 }
@@ -40,6 +59,15 @@ pub fn sent_message(wave: Wave, message: &[u8]) -> Sent
         wave,
         frame: frame_of(wave, message),
     }
+}
+
+/// Writes the same frame in place of another.
+pub fn put_sent(wave: Wave, message: &[u8], sent: &mut Sent)
+    requires { length message.now ≤ 254 }
+    ensures { sent.new ≡ framed wave message.now }
+{
+    sent.wave = wave;
+    put_message(wave, message, &mut sent.frame);
 }
 
 /// What an awaited answer of this wave says, without its check, or how it ends the round: as `Collision` where answers

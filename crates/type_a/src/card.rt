@@ -1,13 +1,13 @@
 //! The card's side, outside the block protocol.
 ghost use Rattle.std.specs.Prelude.{◌≡◌, ◌≢◌};
 ghost use Rattle.ep_base.specs.TypeA.{a_card, a_takes, a_ready, a_select, a_active, Idle, Ready, Halted, Active, Protocol};
-ghost use Rattle.rf_frame.specs.Meaning.{card_hear_of};
+ghost use Rattle.rf_frame.specs.Meaning.{card_hear_of, reply_of};
 ghost use Rattle.type_a.specs.Plan.{PlanFits};
 
-use crate::plan::{APlan, ats, level_part, levels};
+use crate::plan::{APlan, level_part, levels, put_ats};
 use crate::reader::sel;
 use ep_base::{FrameBuf, Wave, bit, frame_size};
-use rf_frame::{CardHear, open_frame, sent_message};
+use rf_frame::{CardDoes, CardHear, Sent, open_frame, put_sent};
 use std::marker::Model;
 
 /// Where a card stands, and that it is in the block protocol.
@@ -69,48 +69,51 @@ impl ACard {
     }
 
     /// A selection of its level, by the bytes after SEL and 70h.
-    fn select(&mut self, level: u8, part: &[u8]) -> CardHear
+    fn select(&mut self, level: u8, part: &[u8], sent: &mut Sent) -> CardDoes
         requires at { self.old.state ≡ Ready level }
         ensures plan { self.new.plan ≡ self.old.plan }
         ensures state { self.new.state ≡ (a_select self.old.plan level part.now).0 }
-        ensures reply { card_hear_of result ≡ (a_select self.old.plan level part.now).1 }
+        ensures reply { reply_of result sent.new ≡ (a_select self.old.plan level part.now).1 }
     {
         let own = level_part(&self.plan, level);
         if part != own.as_slice() {
             self.place = Place::Idle;
-            return CardHear::Mute;
+            return CardDoes::Mute;
         }
         if level == levels(&self.plan) {
             self.place = Place::Active;
-            return CardHear::Send(sent_message(Wave::A, &[self.plan.sak]));
+            put_sent(Wave::A, &[self.plan.sak], sent);
+            return CardDoes::Send;
         }
         self.place = Place::Ready(level + 1);
-        CardHear::Send(sent_message(Wave::A, &[0x04]))
+        put_sent(Wave::A, &[0x04], sent);
+        CardDoes::Send
     }
 
     /// A message in the state Ready.
-    fn ready(&mut self, level: u8, wave: Wave, message: &[u8]) -> CardHear
+    fn ready(&mut self, level: u8, wave: Wave, message: &[u8], sent: &mut Sent) -> CardDoes
         requires at { self.old.state ≡ Ready level }
         ensures plan { self.new.plan ≡ self.old.plan }
         ensures state { self.new.state ≡ (a_ready self.old.plan level wave message.now).0 }
-        ensures reply { card_hear_of result ≡ (a_ready self.old.plan level wave message.now).1 }
+        ensures reply { reply_of result sent.new ≡ (a_ready self.old.plan level wave message.now).1 }
     {
         if wave == Wave::ABare && message == [sel(level), 0x20].as_slice() {
             let part = level_part(&self.plan, level);
-            return CardHear::Send(sent_message(Wave::ABare, part.as_slice()));
+            put_sent(Wave::ABare, part.as_slice(), sent);
+            return CardDoes::Send;
         }
         if wave == Wave::A && message.len() >= 2 && message[0] == sel(level) && message[1] == 0x70 {
-            return self.select(level, &message[2..]);
+            return self.select(level, &message[2..], sent);
         }
-        CardHear::Mute
+        CardDoes::Mute
     }
 
     /// A message in the state Active.
-    fn active(&mut self, wave: Wave, message: &[u8]) -> CardHear
+    fn active(&mut self, wave: Wave, message: &[u8], sent: &mut Sent) -> CardDoes
         requires at { self.old.state ≡ Active }
         ensures plan { self.new.plan ≡ self.old.plan }
         ensures state { self.new.state ≡ (a_active self.old.plan wave message.now).0 }
-        ensures reply { card_hear_of result ≡ (a_active self.old.plan wave message.now).1 }
+        ensures reply { reply_of result sent.new ≡ (a_active self.old.plan wave message.now).1 }
     {
         if wave == Wave::A
             && message.len() == 2
@@ -119,21 +122,21 @@ impl ACard {
             && bit(self.plan.sak, 0x20) == 1
         {
             self.place = Place::Protocol;
-            return CardHear::Opened {
-                answer: ats(&self.plan),
+            put_ats(&self.plan, sent);
+            return CardDoes::Opened {
                 fsd: frame_size(message[1] / 16),
             };
         }
-        CardHear::Mute
+        CardDoes::Mute
     }
 
     /// A good frame's message, outside the block protocol.
     #[tactic(auto, unfolding(ep_base::specs::TypeA::a_takes))]
-    fn takes(&mut self, wave: Wave, message: &[u8]) -> CardHear
+    fn takes(&mut self, wave: Wave, message: &[u8], sent: &mut Sent) -> CardDoes
         requires out { self.old.state ≢ Protocol }
         ensures plan { self.new.plan ≡ self.old.plan }
         ensures state { self.new.state ≡ (a_takes self.old.plan self.old.state wave message.now).0 }
-        ensures reply { card_hear_of result ≡ (a_takes self.old.plan self.old.state wave message.now).1 }
+        ensures reply { reply_of result sent.new ≡ (a_takes self.old.plan self.old.state wave message.now).1 }
     {
         if wave == Wave::AShort && message == [0x52].as_slice() {
             let size = match levels(&self.plan) {
@@ -142,16 +145,17 @@ impl ACard {
                 _ => 0x84,
             };
             self.place = Place::Ready(1);
-            return CardHear::Send(sent_message(Wave::ABare, &[size, 0]));
+            put_sent(Wave::ABare, &[size, 0], sent);
+            return CardDoes::Send;
         }
         if wave == Wave::A && message == [0x50, 0x00].as_slice() {
             self.place = Place::Halted;
-            return CardHear::Mute;
+            return CardDoes::Mute;
         }
         match self.place {
-            Place::Ready(level) => self.ready(level, wave, message),
-            Place::Active => self.active(wave, message),
-            Place::Idle | Place::Protocol | Place::Halted => CardHear::Mute,
+            Place::Ready(level) => self.ready(level, wave, message, sent),
+            Place::Active => self.active(wave, message, sent),
+            Place::Idle | Place::Protocol | Place::Halted => CardDoes::Mute,
         }
     }
 
@@ -162,16 +166,27 @@ impl ACard {
         ensures state { self.new.state ≡ (a_card self.old.plan self.old.state wave frame.now.items).0 }
         ensures reply { card_hear_of result ≡ (a_card self.old.plan self.old.state wave frame.now.items).1 }
     {
+        let mut sent = Sent::blank();
+        let does = self.hear_into(wave, frame, &mut sent);
+        does.with(sent)
+    }
+
+    /// Hears a frame as `hear` does, and writes what it sends in place of another frame.
+    pub fn hear_into(&mut self, wave: Wave, frame: &FrameBuf, sent: &mut Sent) -> CardDoes
+        ensures plan { self.new.plan ≡ self.old.plan }
+        ensures state { self.new.state ≡ (a_card self.old.plan self.old.state wave frame.now.items).0 }
+        ensures reply { reply_of result sent.new ≡ (a_card self.old.plan self.old.state wave frame.now.items).1 }
+    {
         if let Place::Protocol = self.place {
             return if wave == Wave::A {
-                CardHear::Passed
+                CardDoes::Passed
             } else {
-                CardHear::Mute
+                CardDoes::Mute
             };
         }
         match open_frame(wave, frame) {
-            Some(message) => self.takes(wave, message),
-            None => CardHear::Mute,
+            Some(message) => self.takes(wave, message, sent),
+            None => CardDoes::Mute,
         }
     }
 }

@@ -6,7 +6,7 @@ ghost use Rattle.type_a.specs.Plan.{PlanFits};
 
 use crate::reader::bcc;
 use ep_base::{Buf, Wave};
-use rf_frame::{Sent, sent_message};
+use rf_frame::{Sent, put_sent};
 use std::marker::Model;
 
 /// A card of Type A.
@@ -65,10 +65,10 @@ pub(crate) fn level_part(plan: &APlan, level: u8) -> Buf<5>
     part
 }
 
-/// A card's ATS.
-pub(crate) fn ats(plan: &APlan) -> Sent
+/// Sends a card's ATS.
+pub(crate) fn put_ats(plan: &APlan, sent: &mut Sent)
     requires { PlanFits plan.now }
-    ensures { result ≡ framed Wave.A (ats_of plan.now) }
+    ensures { sent.new ≡ framed Wave.A (ats_of plan.now) }
 {
     let mut message = Buf::<18>::new();
     message.push(3 + plan.historical.len() as u8);
@@ -77,5 +77,5 @@ pub(crate) fn ats(plan: &APlan) -> Sent
     message
         .try_extend_from_slice(plan.historical.as_slice())
         .unwrap();
-    sent_message(Wave::A, message.as_slice())
+    put_sent(Wave::A, message.as_slice(), sent);
 }

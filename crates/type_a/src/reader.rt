@@ -9,7 +9,7 @@ ghost use Rattle.type_a.specs.Reader.{asked, said, turn, IsSelect, IsComplete};
 
 use crate::parse_ats;
 use ep_base::{Buf, CardKind, Wave, bit};
-use rf_frame::{Activated, Ask, Heard, RoundEnd, answer_in, ask_message};
+use rf_frame::{Activated, Ask, Heard, RoundEnd, answer_in, put_ask};
 use std::marker::Model;
 
 /// What was sent last, or that the round is over.
@@ -89,18 +89,28 @@ impl AReader {
         requires { IsSome self.now.stage }
         ensures { result ≡ asked self.now }
     {
+        let mut ask = Ask::blank();
+        self.ask_into(&mut ask);
+        ask
+    }
+
+    /// Writes the next frame in place of another. The round goes on.
+    pub fn ask_into(&self, ask: &mut Ask)
+        requires { IsSome self.now.stage }
+        ensures { ask.new ≡ asked self.now }
+    {
         match self.step {
-            Step::Woken => ask_message(Wave::AShort, &[0x52]),
-            Step::Level => ask_message(Wave::ABare, &[sel(self.level), 0x20]),
+            Step::Woken => put_ask(Wave::AShort, &[0x52], ask),
+            Step::Level => put_ask(Wave::ABare, &[sel(self.level), 0x20], ask),
             Step::Select => {
                 let mut message = Buf::<7>::new();
                 message.push(sel(self.level));
                 message.push(0x70);
                 message.try_extend_from_slice(&self.part).unwrap();
-                ask_message(Wave::A, message.as_slice())
+                put_ask(Wave::A, message.as_slice(), ask)
             }
-            Step::Complete => ask_message(Wave::A, &[0xe0, 16 * self.fsdi]),
-            Step::Over => ask_message(Wave::AShort, &[]),
+            Step::Complete => put_ask(Wave::A, &[0xe0, 16 * self.fsdi], ask),
+            Step::Over => put_ask(Wave::AShort, &[], ask),
         }
     }
 

@@ -2,12 +2,12 @@
 ghost use Rattle.std.specs.Prelude.{◌≡◌, ◌≢◌};
 ghost use Rattle.ep_base.specs.Hearing.{framed};
 ghost use Rattle.ep_base.specs.TypeB.{b_card, b_takes, b_ready, atqb_of, BIdle, BReady, BProtocol};
-ghost use Rattle.rf_frame.specs.Meaning.{card_hear_of};
+ghost use Rattle.rf_frame.specs.Meaning.{card_hear_of, reply_of};
 ghost use Rattle.type_b.specs.Card.{PlanFits, plan_of};
 
 use crate::messages::attrib;
 use ep_base::{Buf, FrameBuf, Wave, frame_size};
-use rf_frame::{CardHear, Sent, open_frame, sent_message};
+use rf_frame::{CardDoes, CardHear, Sent, open_frame, put_sent};
 use std::marker::Model;
 
 /// A card of Type B.
@@ -52,10 +52,10 @@ impl Model for BCard {
     ghost invariant = { CardFits };
 }
 
-/// A card's ATQB.
-fn atqb(plan: &BPlan) -> Sent
+/// Sends a card's ATQB.
+fn put_atqb(plan: &BPlan, sent: &mut Sent)
     requires { PlanFits (plan_of plan.now) }
-    ensures { result ≡ framed Wave.B (atqb_of (plan_of plan.now)) }
+    ensures { sent.new ≡ framed Wave.B (atqb_of (plan_of plan.now)) }
 {
     let mut message = Buf::<12>::new();
     message.push(0x50);
@@ -64,7 +64,7 @@ fn atqb(plan: &BPlan) -> Sent
     message.push(0);
     message.push(16 * plan.fsci + if plan.iso4 { 1 } else { 0 });
     message.push(16 * plan.fwi);
-    sent_message(Wave::B, message.as_slice())
+    put_sent(Wave::B, message.as_slice(), sent);
 }
 
 impl BCard {
@@ -97,43 +97,44 @@ impl BCard {
     }
 
     /// A message in the state Ready.
-    fn ready(&mut self, message: &[u8]) -> CardHear
+    fn ready(&mut self, message: &[u8], sent: &mut Sent) -> CardDoes
         requires at { self.old.state ≡ BReady }
         ensures plan { self.new.plan ≡ self.old.plan }
         ensures state { self.new.state ≡ (b_ready self.old.plan message.now).0 }
-        ensures reply { card_hear_of result ≡ (b_ready self.old.plan message.now).1 }
+        ensures reply { reply_of result sent.new ≡ (b_ready self.old.plan message.now).1 }
     {
         if message.len() == 9 && message[6] < 16 {
             let wanted = attrib(&self.plan.pupi, message[6]);
             if message == wanted.as_slice() && self.plan.iso4 {
                 self.place = Place::Protocol;
-                return CardHear::Opened {
-                    answer: sent_message(Wave::B, &[0]),
+                put_sent(Wave::B, &[0], sent);
+                return CardDoes::Opened {
                     fsd: frame_size(message[6]),
                 };
             }
         }
-        CardHear::Mute
+        CardDoes::Mute
     }
 
     /// A good frame's message, outside the block protocol.
     #[tactic(auto, unfolding(ep_base::specs::TypeB::b_takes))]
-    fn takes(&mut self, wave: Wave, message: &[u8]) -> CardHear
+    fn takes(&mut self, wave: Wave, message: &[u8], sent: &mut Sent) -> CardDoes
         requires out { self.old.state ≢ BProtocol }
         ensures plan { self.new.plan ≡ self.old.plan }
         ensures state { self.new.state ≡ (b_takes self.old.plan self.old.state wave message.now).0 }
-        ensures reply { card_hear_of result ≡ (b_takes self.old.plan self.old.state wave message.now).1 }
+        ensures reply { reply_of result sent.new ≡ (b_takes self.old.plan self.old.state wave message.now).1 }
     {
         if wave != Wave::B {
-            return CardHear::Mute;
+            return CardDoes::Mute;
         }
         if message == [0x05, 0x00, 0x08].as_slice() {
             self.place = Place::Ready;
-            return CardHear::Send(atqb(&self.plan));
+            put_atqb(&self.plan, sent);
+            return CardDoes::Send;
         }
         match self.place {
-            Place::Ready => self.ready(message),
-            Place::Idle | Place::Protocol => CardHear::Mute,
+            Place::Ready => self.ready(message, sent),
+            Place::Idle | Place::Protocol => CardDoes::Mute,
         }
     }
 
@@ -144,16 +145,27 @@ impl BCard {
         ensures state { self.new.state ≡ (b_card self.old.plan self.old.state wave frame.now.items).0 }
         ensures reply { card_hear_of result ≡ (b_card self.old.plan self.old.state wave frame.now.items).1 }
     {
+        let mut sent = Sent::blank();
+        let does = self.hear_into(wave, frame, &mut sent);
+        does.with(sent)
+    }
+
+    /// Hears a frame as `hear` does, and writes what it sends in place of another frame.
+    pub fn hear_into(&mut self, wave: Wave, frame: &FrameBuf, sent: &mut Sent) -> CardDoes
+        ensures plan { self.new.plan ≡ self.old.plan }
+        ensures state { self.new.state ≡ (b_card self.old.plan self.old.state wave frame.now.items).0 }
+        ensures reply { reply_of result sent.new ≡ (b_card self.old.plan self.old.state wave frame.now.items).1 }
+    {
         if let Place::Protocol = self.place {
             return if wave == Wave::B {
-                CardHear::Passed
+                CardDoes::Passed
             } else {
-                CardHear::Mute
+                CardDoes::Mute
             };
         }
         match open_frame(wave, frame) {
-            Some(message) => self.takes(wave, message),
-            None => CardHear::Mute,
+            Some(message) => self.takes(wave, message, sent),
+            None => CardDoes::Mute,
         }
     }
 }

@@ -9,7 +9,7 @@ ghost use Rattle.type_b.specs.Reader.{asked, turn, stage_at, New, place_at, IsNe
 
 use crate::messages::{attrib, parse_atqb};
 use ep_base::{Buf, CardKind, Wave};
-use rf_frame::{Activated, Ask, Heard, RoundEnd, answer_in, ask_message};
+use rf_frame::{Activated, Ask, Heard, RoundEnd, answer_in, put_ask};
 use std::marker::Model;
 
 /// What was sent last, or that the round is over.
@@ -105,11 +105,22 @@ impl BReader {
         requires { IsSome (stage_at self.now.place) }
         ensures { result ≡ asked self.now }
     {
+        let mut ask = Ask::blank();
+        self.ask_into(&mut ask);
+        ask
+    }
+
+    /// Writes the next frame in place of another. The round goes on.
+    pub fn ask_into(&self, ask: &mut Ask)
+        requires { IsSome (stage_at self.now.place) }
+        ensures { ask.new ≡ asked self.now }
+    {
         if let Step::Attrib = self.step {
             let message = attrib(&self.pupi, self.fsdi);
-            return ask_message(Wave::B, message.as_slice());
+            put_ask(Wave::B, message.as_slice(), ask);
+            return;
         }
-        ask_message(Wave::B, &[])
+        put_ask(Wave::B, &[], ask);
     }
 
     /// Takes what was heard after the frame of `ask`. The round goes on, and it ends here: as `Collision` where answers

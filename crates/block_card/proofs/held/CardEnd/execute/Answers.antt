@@ -12,4 +12,4 @@ returns-in-Err-clause-by_rules c =
     let fits : length c.as_slice.result.now ≤ 261 = search rules in
     let none : is_command c.args.self.now.taken.items ≡ false =
     subst (λ (l : List ℕ). is_command l ≡ false) alike (not_command c.in-Err.field-0 c.as_slice.result.now c.in-Err.ensures.short c.in-Err.ensures.long c.in-Err.ensures.wrong fits) in
-    λ card block. refused (held_card c.args.self.now) (held_card c.begin.new.self) c.last_frame.result c.unwrap-response.result card block c.args.self.now.sized c.begin.ensures.kept none word c.begin.ensures.by_rules c.last_frame.ensures
+    λ card block. refused (held_card c.args.self.now) (held_card c.begin.new.self) c.put_last.new.frame c.unwrap-response.result card block c.args.self.now.sized c.begin.ensures.kept none word c.begin.ensures.by_rules c.put_last.ensures
