@@ -6,7 +6,6 @@ mod candidates;
 mod direct;
 mod holding;
 mod kernel;
-mod radio;
 mod ran;
 mod session;
 mod starting;
