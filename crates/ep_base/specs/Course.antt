@@ -11,10 +11,11 @@ use Rattle.ep_base.specs.Talk.{Result, Round, Response, Closed, Talk, Over, Say,
 use Rattle.ep_base.specs.Air.{later, air_after, felt}
 use Rattle.ep_base.specs.Images.{image_from, state_after, stored}
 use Rattle.ep_base.specs.BlockField.{Link, Field, Polled, Setting, after_polled, records, unlogged}
+use Rattle.ep_base.specs.declared.limits.TheConstants.{COMMAND_EXCHANGES}
 
 -- So many exchanges always end a command.
 unfoldable pub most : ℕ
-most = 5859
+most = COMMAND_EXCHANGES
 
 -- What happens in the air, with the begin of each command.
 pub data Step : Type 0 where

@@ -3,6 +3,7 @@ use Rattle.std.specs.Prelude.{◌≡◌, ℕ, ◌≤◌, ◌==◌, Bool, true, L
 use Rattle.ep_base.specs.Hearing.{Activated}
 use Rattle.ep_base.specs.CardAnswer.{Answered}
 use Rattle.ep_base.specs.CardEnd.{Image}
+use Rattle.ep_base.specs.declared.limits.TheConstants.{COMMAND, RESPONSE}
 
 -- The rules of the cards, whose images have the states S: which bytes are a command, the answer of the card with this number and the state
 -- after it, the state in which no application is selected, and the number of the card that a round found.
@@ -14,8 +15,8 @@ pub record Rules (S : Type 0) : Type 0 where
 
 -- Commands have at most 261 bytes, responses 2 to 258, and at most eight S(WTX) come before one.
 pub record AreRules {S : Type 0} (rules : Rules S) : Type 0 where
-  pub commands : (command : List ℕ) → rules.is_command command ≡ true → length command ≤ 261
-  pub responses : (n : ℕ) (s : S) (command : List ℕ) → (2 ≤ length (rules.answers n s command).0.response) × (length (rules.answers n s command).0.response ≤ 258)
+  pub commands : (command : List ℕ) → rules.is_command command ≡ true → length command ≤ COMMAND
+  pub responses : (n : ℕ) (s : S) (command : List ℕ) → (2 ≤ length (rules.answers n s command).0.response) × (length (rules.answers n s command).0.response ≤ RESPONSE)
   pub waits : (n : ℕ) (s : S) (command : List ℕ) → (rules.answers n s command).0.wtx ≤ 8
   pub once : (s : S) → rules.deselected (rules.deselected s) ≡ rules.deselected s
 
