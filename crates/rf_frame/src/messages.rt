@@ -5,11 +5,11 @@ ghost use Rattle.ep_base.specs.Hearing.{asks, framed, awaited};
 ghost use Rattle.rf_frame.specs.Meaning.{heard_of, awaited_of};
 
 use crate::{Ask, Heard, RoundEnd, Sent, open_frame, seal};
-use ep_base::{FrameBuf, Wave};
+use ep_base::{FrameBuf, MESSAGE, Wave};
 
 /// A message of at most 254 bytes as a frame of this wave.
 fn frame_of(wave: Wave, message: &[u8]) -> FrameBuf
-    requires { length message.now ≤ 254 }
+    requires { length message.now ≤ MESSAGE }
     ensures { result.items ≡ sealed wave message.now }
 {
     let mut frame = FrameBuf::new();
@@ -20,7 +20,7 @@ fn frame_of(wave: Wave, message: &[u8]) -> FrameBuf
 
 /// Asks with a message of at most 254 bytes in a frame of this wave, without a reset and with the waiting number 0.
 pub fn ask_message(wave: Wave, message: &[u8]) -> Ask
-    requires { length message.now ≤ 254 }
+    requires { length message.now ≤ MESSAGE }
     ensures { result ≡ asks wave message.now }
 {
     Ask {
@@ -33,7 +33,7 @@ pub fn ask_message(wave: Wave, message: &[u8]) -> Ask
 
 /// Sends a message of at most 254 bytes in a frame of this wave.
 pub fn sent_message(wave: Wave, message: &[u8]) -> Sent
-    requires { length message.now ≤ 254 }
+    requires { length message.now ≤ MESSAGE }
     ensures { result ≡ framed wave message.now }
 {
     Sent {
