@@ -6,11 +6,12 @@ use Rattle.doc_table.specs.declared.fault.DocKind.TheVariants.{TooMany}
 use Rattle.doc_table.specs.declared.list.ElementKind.TheVariants.{Table}
 use Rattle.doc_table.specs.Read.{◌>>=◌, Reader, Place, defaulted, integer_in, list_of, fails}
 use Rattle.acquirer_config.specs.Combination.{combination}
+use Rattle.ep_base.specs.declared.limits.TheConstants.{TYPE_COMBINATIONS}
 
 -- Of the types from t on, how many Combinations the first one has that has more than sixteen.
 unfoldable pub crowd_from : ℕ → ℕ → List Combination → Option ℕ
 crowd_from t zero list = None
-crowd_from t (suc types) list = if nat_lt 16 (count_of t list) then Some (count_of t list) else crowd_from (t + 1) types list
+crowd_from t (suc types) list = if nat_lt TYPE_COMBINATIONS (count_of t list) then Some (count_of t list) else crowd_from (t + 1) types list
 
 -- The same of all types.
 unfoldable pub crowd : List Combination → Option ℕ

@@ -8,6 +8,7 @@ ghost use Rattle.acquirer_config.specs.Config.{crowd, config_at, combinations};
 
 use crate::combination::{Combination, CombinationTable};
 use doc_table::{DocKind, ListOf, Path, Section, TableEnd};
+use ep_base::TYPE_COMBINATIONS;
 use std::alloc::Global;
 use std::marker::Model;
 use toml::Table;
@@ -97,7 +98,7 @@ fn crowd(list: &[Combination]) -> Option<usize>
 {
     for txn_type in 0..256u16 {
         let count = count_of(txn_type, list);
-        if count > 16 {
+        if count > TYPE_COMBINATIONS {
             return Some(count);
         }
     }

@@ -4,12 +4,13 @@ ghost use Rattle.ep_base.specs.Apdu.{is_command, select};
 
 use crate::ApduFault;
 use arrayvec::ArrayVec;
+use ep_base::COMMAND;
 use std::marker::Model;
 
 /// A command of 4 to 261 bytes, seen as its bytes.
 #[derive(Drop)]
 pub struct Command {
-    bytes: ArrayVec<u8, 261>,
+    bytes: ArrayVec<u8, COMMAND>,
 }
 
 impl Model for Command {
@@ -31,13 +32,13 @@ impl Command {
     pub fn of(bytes: &[u8]) -> Result<Command, ApduFault>
         ensures ok { IfOk result (λ c. (c ≡ bytes.now) × (is_command bytes.now ≡ true)) }
         ensures short { IsErrOf result ApduFault.Short ↔ (length bytes.now < 4) }
-        ensures long { IsErrOf result ApduFault.TooLong ↔ (261 < length bytes.now) }
-        ensures wrong { IsErrOf result ApduFault.LcWrong ↔ ((4 ≤ length bytes.now) × (length bytes.now ≤ 261) × (is_command bytes.now ≡ false)) }
+        ensures long { IsErrOf result ApduFault.TooLong ↔ (COMMAND < length bytes.now) }
+        ensures wrong { IsErrOf result ApduFault.LcWrong ↔ ((4 ≤ length bytes.now) × (length bytes.now ≤ COMMAND) × (is_command bytes.now ≡ false)) }
     {
         if bytes.len() < 4 {
             return Err(ApduFault::Short);
         }
-        if bytes.len() > 261 {
+        if bytes.len() > COMMAND {
             return Err(ApduFault::TooLong);
         }
         if !has_right_length(bytes) {
@@ -73,7 +74,7 @@ impl Command {
         ensures bytes { result.now ≡ self.now }
         ensures is_one { is_command self.now ≡ true }
         ensures least { 4 ≤ length self.now }
-        ensures most { length self.now ≤ 261 }
+        ensures most { length self.now ≤ COMMAND }
     {
         self.bytes.as_slice()
     }
@@ -102,7 +103,7 @@ impl Command {
 #[tactic(auto, unfolding(ep_base::specs::Apdu::is_command))]
 fn has_right_length(bytes: &[u8]) -> bool
     requires least { 4 ≤ length bytes.now }
-    requires most { length bytes.now ≤ 261 }
+    requires most { length bytes.now ≤ COMMAND }
     ensures { result ≡ is_command bytes.now }
 {
     if bytes.len() <= 5 {

@@ -4,12 +4,13 @@ ghost use Rattle.ep_base.specs.Apdu.{data_of, status_of};
 
 use crate::ApduFault;
 use arrayvec::ArrayVec;
+use ep_base::{DATA, RESPONSE};
 use std::marker::Model;
 
 /// A response of 2 to 258 bytes, data and a status word, seen as its bytes.
 #[derive(Drop)]
 pub struct Response {
-    bytes: ArrayVec<u8, 258>,
+    bytes: ArrayVec<u8, RESPONSE>,
 }
 
 impl Model for Response {
@@ -27,9 +28,9 @@ impl Response {
     ///
     /// Errors: `Short` under 2 bytes, `TooLong` above 258.
     pub fn of(bytes: &[u8]) -> Result<Response, ApduFault>
-        ensures ok { IfOk result (λ r. (r ≡ bytes.now) × (2 ≤ length bytes.now) × (length bytes.now ≤ 258)) }
+        ensures ok { IfOk result (λ r. (r ≡ bytes.now) × (2 ≤ length bytes.now) × (length bytes.now ≤ RESPONSE)) }
         ensures short { IsErrOf result ApduFault.Short ↔ (length bytes.now < 2) }
-        ensures long { IsErrOf result ApduFault.TooLong ↔ (258 < length bytes.now) }
+        ensures long { IsErrOf result ApduFault.TooLong ↔ (RESPONSE < length bytes.now) }
         ensures never { IsErrOf result ApduFault.LcWrong → ⊥ }
     {
         if bytes.len() < 2 {
@@ -45,7 +46,7 @@ impl Response {
     pub fn bytes(&self) -> &[u8]
         ensures bytes { result.now ≡ self.now }
         ensures least { 2 ≤ length self.now }
-        ensures most { length self.now ≤ 258 }
+        ensures most { length self.now ≤ RESPONSE }
     {
         self.bytes.as_slice()
     }
@@ -54,7 +55,7 @@ impl Response {
     pub fn data(&self) -> &[u8]
         ensures bytes { result.now ≡ data_of self.now }
         ensures count { length result.now + 2 ≡ length self.now }
-        ensures most { length result.now ≤ 256 }
+        ensures most { length result.now ≤ DATA }
     {
         let bytes = self.bytes();
         let (data, _) = bytes.split_at(bytes.len() - 2);

@@ -5,6 +5,7 @@ use Rattle.ep_base.specs.Spelling.{Read, Reads, Refuses}
 use Rattle.ep_base.specs.declared.blocks.BlockFault.{BlockFault}
 use Rattle.block_pcb.specs.declared.blocks.Block.{Block}
 use Rattle.block_pcb.specs.declared.blocks.Block.TheVariants.{I, RAck, RNak, Deselect, Wtx}
+use Rattle.ep_base.specs.declared.limits.TheConstants.{INF}
 
 -- A block in plain data (this project's own).
 abbrev pub block_of : Block → plain.Block
@@ -22,7 +23,7 @@ decoded_of (Err fault) = Refuses fault
 -- A block's values are in their ranges: a number is 0 or 1, an INF has at most 253 bytes, power bits are at most 3, and a WTXM is 1 to 59
 -- (ISO/IEC 14443-4).
 abbrev pub InRange : Block → Type 0
-InRange (I number chained inf) = (number ≤ 1) × (length inf.now ≤ 253)
+InRange (I number chained inf) = (number ≤ 1) × (length inf.now ≤ INF)
 InRange (RAck number) = number ≤ 1
 InRange (RNak number) = number ≤ 1
 InRange Deselect = Unit {0}

@@ -4,7 +4,7 @@ ghost use Rattle.ep_base.specs.Spelling.{announced, is_any as any, is_i as i_blo
 ghost use Rattle.block_pcb.specs.Meaning.{block_of, decoded_of, InRange, IsNumbered};
 
 use crate::Block;
-use ep_base::BlockFault;
+use ep_base::{BlockFault, MESSAGE};
 
 /// Whether a PCB announces an I-block.
 #[tactic(auto, unfolding(ep_base::specs::Spelling::announced))]
@@ -103,7 +103,7 @@ fn wtx<'b>(inf: &'b [u8]) -> Result<Block<'b>, BlockFault>
 #[tactic(auto, unfolding(ep_base::specs::Spelling::announced))]
 pub fn decode(bytes: &[u8]) -> Result<Block<'_>, BlockFault>
     ensures block { decoded_of result ≡ read_block bytes.now }
-    ensures range { length bytes.now ≤ 254 → IfOk result InRange }
+    ensures range { length bytes.now ≤ MESSAGE → IfOk result InRange }
     ensures number { IfOk result IsNumbered }
 {
     let Some((pcb, inf)) = bytes.split_first() else {

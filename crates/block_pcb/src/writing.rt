@@ -5,7 +5,7 @@ ghost use Rattle.ep_base.specs.Spelling.{pcb_of, inf_of, spelled};
 ghost use Rattle.block_pcb.specs.Meaning.{block_of, InRange};
 
 use crate::Block;
-use ep_base::FrameBuf;
+use ep_base::{FrameBuf, MESSAGE};
 
 /// The first byte of a block.
 fn pcb(block: &Block<'_>) -> u8
@@ -34,7 +34,7 @@ pub fn encode(block: &Block<'_>, out: &mut FrameBuf)
     requires range { InRange block.now }
     requires empty { out.old.items ≡ [] }
     ensures bytes { out.new.items ≡ spelled (block_of block.now) }
-    ensures most { array_vec_len out.new ≤ 254 }
+    ensures most { array_vec_len out.new ≤ MESSAGE }
 {
     out.push(pcb(block));
     match *block {

@@ -1,6 +1,7 @@
 -- Commands and responses of a card (ISO/IEC 7816-4, as EMV uses it; the lengths are this project's profile).
 use Rattle.std.specs.Prelude.{ℕ, ◌+◌, ◌-◌, ◌*◌, ◌==◌, ◌&&◌, ◌||◌, nat_lt, nat_le, nat_eq, Bool, List, [], ◌∷◌, ◌++◌, length, slice_index, take, drop, if◌then◌else◌}
 use Rattle.std.specs.Cmp.Lexicographic.{pointwise}
+use Rattle.ep_base.specs.declared.limits.TheConstants.{COMMAND}
 
 -- The bytes are the same.
 abbrev pub same_bytes : List ℕ → List ℕ → Bool
@@ -9,7 +10,7 @@ same_bytes xs ys = pointwise nat_eq xs ys
 -- At most 261 bytes: 4; or 5; or, with byte 5 as Lc from 1 up, 5 + Lc or 6 + Lc.
 unfoldable pub is_command : List ℕ → Bool
 is_command bytes =
-    nat_le (length bytes) 261
+    nat_le (length bytes) COMMAND
     && ((length bytes == 4) || ((length bytes == 5)
     || nat_lt 0 (slice_index bytes 4) && ((length bytes == 5 + slice_index bytes 4) || (length bytes == 6 + slice_index bytes 4))))
 

@@ -5,6 +5,7 @@ use Rattle.std.specs.Prelude.{Some, None}
 use Rattle.std.specs.Option.{ForSome}
 use Rattle.std.specs.List.{starts_with}
 use Rattle.ep_base.specs.Apdu.{same_bytes, command_data, ppse_name, is_9000}
+use Rattle.ep_base.specs.declared.limits.TheConstants.{COMMAND, RESPONSE}
 
 -- A response, how many S(WTX) come before it, and their WTXM.
 pub record Answered : Type 0 where
@@ -153,7 +154,7 @@ new_image number ppse apps = record { number = number; ppse = unused ppse; apps 
 -- The limits of an image and of its answers (this project's profile).
 pub record IsResponse (response : List ℕ) : Type 0 where
   pub least : 2 ≤ length response
-  pub most : length response ≤ 258
+  pub most : length response ≤ RESPONSE
 
 pub record AreAnswers (a : Answers) : Type 0 where
   pub each : All IsResponse a.list
@@ -162,7 +163,7 @@ pub record AreAnswers (a : Answers) : Type 0 where
 
 pub record IsRule (r : Rule) : Type 0 where
   pub prefix_least : 1 ≤ length r.prefix
-  pub prefix_most : length r.prefix ≤ 261
+  pub prefix_most : length r.prefix ≤ COMMAND
   pub answers : AreAnswers r.responses
   pub some : 0 < length r.responses.list
   pub waits : r.wtx ≤ 8

@@ -3,6 +3,7 @@ use Rattle.std.specs.Prelude.{ℕ, zero, suc, ◌-◌, nat_le, Bool, true, false
 use Rattle.ep_base.specs.Block.{Block, I, RAck, RNak, Deselect, Wtx, other, same}
 use Rattle.ep_base.specs.Parts.{Cut, cut, more}
 use Rattle.ep_base.specs.CardAnswer.{Answered}
+use Rattle.ep_base.specs.declared.limits.TheConstants.{COMMAND}
 
 -- What a card does with commands: which bytes are one, and the answer to the last of those that it executed.
 pub record Image : Type 0 where
@@ -79,7 +80,7 @@ on_wtx (Waits (suc wtx) wtxm first others) card = sends (Wtx 0 wtxm) card.number
 -- The card's rules, for a card that cuts its responses for frames of this size.
 abbrev pub card_hears : ℕ → Image → Card → Block → Answer
 card_hears frame image card (I k ch inf) =
-    if nat_le (length (card.taken ++ inf)) 261 then on_part frame image card ch (card.taken ++ inf) else mute (dropped card)
+    if nat_le (length (card.taken ++ inf)) COMMAND then on_part frame image card ch (card.taken ++ inf) else mute (dropped card)
 card_hears frame image card (RAck k) = if same k card.number then again card else on_ack card.left card
 card_hears frame image card (RNak k) =
     if same k card.number then again card else sends (RAck card.number) card.number card.taken card.left card.log

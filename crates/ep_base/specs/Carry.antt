@@ -12,6 +12,7 @@ use Rattle.ep_base.specs.Apdu.{is_command}
 use Rattle.ep_base.specs.CardAnswer.{IsImage, card_answer}
 use Rattle.ep_base.specs.Air.{ArePassages}
 use Rattle.ep_base.specs.Wire.{Party, Wire, wire_send, wire}
+use Rattle.ep_base.specs.declared.limits.TheConstants.{FRAME}
 
 -- The medium is sent a block of this link in a state, and answers so (ISO/IEC 14443-4).
 abbrev pub SendsBlock : {S : Type 0} → MediumSteps S → LinkSetting → S → Block → Option Hearing → S → Type 0
@@ -52,7 +53,7 @@ pub record OfLink (set : LinkSetting) (w : Wire) : Type 0 where
   pub frame : w.party.fsd ≡ set.frames.reader
   pub card_least : 16 ≤ set.frames.card
   pub reader_least : 16 ≤ set.frames.reader
-  pub reader_most : set.frames.reader ≤ 256
+  pub reader_most : set.frames.reader ≤ FRAME
   pub image : IsImage w.party.image
   pub fates : ArePassages w.air.fates
   pub room : length w.log + 2 ≤ w.room

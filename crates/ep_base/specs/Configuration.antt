@@ -2,6 +2,7 @@
 use Rattle.std.specs.Prelude.{◌≡◌, ℕ, ◌≤◌, ◌==◌, List, length, count_by, All, Bool}
 use Rattle.std.specs.Option.{ForSome}
 use Rattle.std.specs.declared.option.Option.{Option}
+use Rattle.ep_base.specs.declared.limits.TheConstants.{TYPE_COMBINATIONS}
 
 -- A Combination: an application that the acquirer accepts, the kernel that serves it, and its limits in minor units.
 pub record Combination : Type 0 where
@@ -47,7 +48,7 @@ count_of txn_type list = count_by (λ (c : Combination). c.txn_type == txn_type)
 pub record AreCombinations (list : List Combination) : Type 0 where
   pub each : All IsCombination list
   pub count : length list ≤ 64
-  pub of_a_type : (txn_type : ℕ) → count_of txn_type list ≤ 16
+  pub of_a_type : (txn_type : ℕ) → count_of txn_type list ≤ TYPE_COMBINATIONS
 
 -- Settings within their limits.
 pub record AreSettings (settings : Settings) : Type 0 where

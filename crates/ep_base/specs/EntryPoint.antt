@@ -13,10 +13,11 @@ use Rattle.ep_base.specs.Hearing.{Activated}
 use Rattle.ep_base.specs.Said.{Given, Verdict, Start, Pre, Notice, Card, Candidates, Activate, Outcome, Finished}
 use Rattle.ep_base.specs.Kernel.{Move, Send, Done, KernelSteps}
 use Rattle.ep_base.specs.Talk.{Talk, Over, Say, Command, Close, rounds}
+use Rattle.ep_base.specs.declared.limits.TheConstants.{ROUNDS}
 
 -- The most poll rounds of one Start B (this project's profile).
 abbrev pub most_rounds : ℕ
-most_rounds = 64
+most_rounds = ROUNDS
 
 -- Start B: the card that a round finds, or the end after the last round.
 unfoldable pub start_b : (Activated → Talk) → Talk

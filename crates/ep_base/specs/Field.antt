@@ -12,6 +12,7 @@ use Rattle.ep_base.specs.TypeB.{BPlan, BState, BIdle, b_card}
 use Rattle.ep_base.specs.Air.{Leg, Passage, Air, next_fate, later}
 use Rattle.ep_base.specs.Air as legs
 use Rattle.ep_base.specs.Wire.{Party, Heeded, takes_frame, comes_down, comes_back}
+use Rattle.ep_base.specs.declared.limits.TheConstants.{FRAME}
 
 -- A card outside the block protocol: its plan, and where it stands (ISO/IEC 14443-3).
 pub data Outside : Type 0 where
@@ -224,7 +225,7 @@ abbrev pub placed_a : APlan → Image → Placed
 placed_a plan image = record {
   present = false;
   outside = OfA plan Idle;
-  party = record { kind = kinds.A; fsd = 256; card = fresh_card; image = image };
+  party = record { kind = kinds.A; fsd = FRAME; card = fresh_card; image = image };
 }
 
 -- A Type B card before the first reset of its field (this project's own).
@@ -232,7 +233,7 @@ abbrev pub placed_b : BPlan → Image → Placed
 placed_b plan image = record {
   present = false;
   outside = OfB plan BIdle;
-  party = record { kind = kinds.B; fsd = 256; card = fresh_card; image = image };
+  party = record { kind = kinds.B; fsd = FRAME; card = fresh_card; image = image };
 }
 
 -- A field that was just opened (this project's own).

@@ -3,6 +3,7 @@ use Rattle.std.specs.Prelude.{◌≡◌, ℕ, zero, suc, List, [], ◌∷◌, Op
 use Rattle.ep_base.specs.Hearing.{Activated, Hearing, RoundEnd, Empty, Collision, Unsupported, Broken, Found, Turn, Goes, Ends}
 use Rattle.ep_base.specs.Medium.{MediumSteps, Exchanges}
 use Rattle.ep_base.specs.Round.{Stage, Waking, round_asks, round_hears}
+use Rattle.ep_base.specs.declared.limits.TheConstants.{ROUND_EXCHANGES}
 
 -- How polling for a card ends: with the card, with 64 rounds without one, or by a device's failure (this project's profile).
 pub data Polled : Type 0 where
@@ -44,7 +45,7 @@ module _ {S : Type 0} (steps : MediumSteps S) (fsdi : ℕ) where
 
   -- A round: it has at most eleven exchanges (this project's profile).
   abbrev pub PlaysRound : S → Option RoundEnd → S → Type 0
-  PlaysRound s ending t = Plays 11 (Goes Waking) s ending t
+  PlaysRound s ending t = Plays ROUND_EXCHANGES (Goes Waking) s ending t
 
   -- After a round that ended: a card ends the polling, else more rounds follow (this project's profile).
   abbrev pub AfterEnd : (S → List RoundEnd → Polled → S → Type 0) → RoundEnd → Option Activated → S → List RoundEnd → Polled → S → Type 0

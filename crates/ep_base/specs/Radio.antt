@@ -10,6 +10,7 @@ use Rattle.ep_base.specs.Dialogue.{opened}
 use Rattle.ep_base.specs.LinkFrames.{LinkSetting}
 use Rattle.ep_base.specs.Carry.{SendsBlock, Follows}
 use Rattle.ep_base.specs.Transport.{TransportSteps, Presentation, Here, Nobody, Gone, Reply, Answered, Spent, Breached, Lost}
+use Rattle.ep_base.specs.declared.limits.TheConstants.{ROUNDS}
 
 -- An open link between two commands: its setting, and the reader's end (ISO/IEC 14443-4).
 pub record OpenLink : Type 0 where
@@ -52,7 +53,7 @@ module _ {S : Type 0} (steps : MediumSteps S) where
   -- At most 64 rounds were played, which ended so, and of which one was a collision or none (this project's profile).
   pub record Polls (s : Radio S) (collided : Bool) (polled : Polled) (t : Radio S) : Type 0 where
     pub ends : List RoundEnd
-    pub plays : PlaysRounds steps s.fsdi 64 s.medium ends polled t.medium
+    pub plays : PlaysRounds steps s.fsdi ROUNDS s.medium ends polled t.medium
     pub collides : collided ≡ has_collision ends
 
   -- A presentation is rounds until one ends with a card, which opens a link to it; where none does, or the device fails, there is no link (this

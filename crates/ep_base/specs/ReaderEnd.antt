@@ -2,6 +2,7 @@
 use Rattle.std.specs.Prelude.{ℕ, ◌+◌, ◌-◌, nat_le, nat_lt, ◌&&◌, Bool, true, false, if◌then◌else◌, List, [], ◌∷◌, ◌++◌, length}
 use Rattle.ep_base.specs.Block.{Block, I, RAck, RNak, Deselect, Wtx, Heard, Bad, Junk, Intact, other, same, is_bad, is_wtx, is_nak, count}
 use Rattle.ep_base.specs.Parts.{cut, more}
+use Rattle.ep_base.specs.declared.limits.TheConstants.{RESPONSE}
 
 -- No command is open; or this part of the command was sent, and these are left; or these bytes of the response came, and the card chains.
 pub data Phase : Type 0 where
@@ -54,8 +55,8 @@ toggled phase r = record { number = other r.number; phase = phase; since = [] }
 
 -- The part may be taken after these bytes.
 abbrev pub is_fit : ℕ → List ℕ → Bool → List ℕ → Bool
-is_fit frame got true inf = nat_le (length inf + 3) frame && nat_lt 0 (length inf) && nat_le (length (got ++ inf)) 258
-is_fit frame got false inf = nat_le (length inf + 3) frame && nat_le 2 (length (got ++ inf)) && nat_le (length (got ++ inf)) 258
+is_fit frame got true inf = nat_le (length inf + 3) frame && nat_lt 0 (length inf) && nat_le (length (got ++ inf)) RESPONSE
+is_fit frame got false inf = nat_le (length inf + 3) frame && nat_le 2 (length (got ++ inf)) && nat_le (length (got ++ inf)) RESPONSE
 
 -- A part of the response.
 abbrev pub appended : List ℕ → Bool → List ℕ → Reader → Turn

@@ -4,10 +4,11 @@ use Rattle.hex.specs.Hex.{decode_of, IsBytes}
 use Rattle.ep_base.specs.declared.air.Wave.{Wave}
 use Rattle.ep_base.specs.Hearing.{Hearing, Silence, Noise, Overlap, Frame}
 use Rattle.ep_base.specs.TraceLine.{Traced, answer_wave, read_trace_line, trace_text, wave_letter}
+use Rattle.ep_base.specs.declared.limits.TheConstants.{FRAME}
 
 -- A frame of 1 to 256 bytes, in hexadecimal digits of either case (this project's own).
 abbrev pub SpellsFrame : List ℕ → List ℕ → Type 0
-SpellsFrame digits bytes = (decode_of digits ≡ Ok bytes) × (1 ≤ length bytes) × (length bytes ≤ 256)
+SpellsFrame digits bytes = (decode_of digits ≡ Ok bytes) × (1 ≤ length bytes) × (length bytes ≤ FRAME)
 
 -- What was heard after a frame of this wave: a sign, or a frame whose wave is the answer's (this project's own).
 abbrev pub SpellsHeard : Wave → List ℕ → Hearing → Type 0
@@ -31,7 +32,7 @@ pub record SpellsLine (text : List ℕ) (line : Traced) : Type 0 where
 
 -- The bytes of a frame that a line can hold (this project's own).
 abbrev pub HoldsFrame : List ℕ → Type 0
-HoldsFrame bytes = IsBytes bytes × (1 ≤ length bytes) × (length bytes ≤ 256)
+HoldsFrame bytes = IsBytes bytes × (1 ≤ length bytes) × (length bytes ≤ FRAME)
 
 -- What a line can say was heard after a frame of this wave (this project's own).
 abbrev pub HoldsHeard : Wave → Hearing → Type 0

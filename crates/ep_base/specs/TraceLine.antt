@@ -9,6 +9,7 @@ use Rattle.ep_base.specs.declared.air.Wave.{Wave}
 use Rattle.ep_base.specs.declared.air.Wave.TheVariants.{AShort, ABare, A, B}
 use Rattle.ep_base.specs.Apdu.{same_bytes}
 use Rattle.ep_base.specs.Hearing.{Hearing, Silence, Noise, Overlap, Frame}
+use Rattle.ep_base.specs.declared.limits.TheConstants.{FRAME}
 
 -- What a lane sent in an exchange: the frame with its check bytes, its wave, and its waiting number (this project's own).
 pub record Shown : Type 0 where
@@ -83,7 +84,7 @@ wave_named word = find (λ wave. same_bytes word (wave_letter wave)) (AShort ∷
 
 -- Bytes that were spelled, if a frame can have so many (this project's own).
 abbrev pub frame_within : Result (List ℕ) FromHexError → Option (List ℕ)
-frame_within (Ok bytes) = if nat_le 1 (length bytes) && nat_le (length bytes) 256 then Some bytes else None
+frame_within (Ok bytes) = if nat_le 1 (length bytes) && nat_le (length bytes) FRAME then Some bytes else None
 frame_within (Err e) = None
 
 -- The frame of 1 to 256 bytes that hexadecimal digits of either case spell (this project's own).

@@ -1,9 +1,10 @@
 -- How a talk may run over a transport, before a taker of events (this project's own).
-use Rattle.std.specs.Prelude.{◌≡◌, ◌⊎◌, ℕ, Bool, true, false, List, [], ◌∷◌, ◌++◌, replicate}
+use Rattle.std.specs.Prelude.{◌-◌, ◌≡◌, ◌⊎◌, ℕ, Bool, true, false, List, [], ◌∷◌, ◌++◌, replicate}
 use Rattle.ep_base.specs.Hearing.{RoundEnd, Empty, Collision, Found}
 use Rattle.ep_base.specs.Said.{Ending, Said, Tells, Apdu, End, EndLink, EndBreach}
 use Rattle.ep_base.specs.Transport.{TransportSteps, EventSteps, Presentation, Here, Nobody, Gone, Reply, Answered, Spent, Breached, Lost}
 use Rattle.ep_base.specs.Talk.{Talk, Over, Say, Poll, Command, Close, Result, Round, Response, Closed, so_far}
+use Rattle.ep_base.specs.declared.limits.TheConstants.{ROUNDS}
 
 -- How a run ends: with an event that ends the transaction, or by the fault of a device or of the taker of events.
 pub data RunEnd : Type 0 where
@@ -32,7 +33,7 @@ first_end Gone = Empty
 abbrev pub more_ends : Presentation → List RoundEnd
 more_ends (Here false card) = []
 more_ends (Here true card) = Found card ∷ []
-more_ends (Nobody collided) = replicate 63 Empty
+more_ends (Nobody collided) = replicate (ROUNDS - 1) Empty
 more_ends Gone = []
 
 module _ {T E : Type 0} (link : TransportSteps T) (events : EventSteps E) where

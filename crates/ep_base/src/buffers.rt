@@ -2,16 +2,17 @@
 ghost use Rattle.std.specs.Prelude.{◌≡◌, ◌<◌, ◌≤◌};
 ghost use Rattle.ep_base.specs.FrameSize.{frame_size};
 
+use crate::limits::{FRAME, FRAME_16, LINE_BYTES};
 use arrayvec::{ArrayString, ArrayVec};
 
 /// A buffer of at most `N` bytes.
 pub type Buf<const N: usize> = ArrayVec<u8, N>;
 
 /// The bytes of one frame, its check bytes among them.
-pub type FrameBuf = Buf<256>;
+pub type FrameBuf = Buf<FRAME>;
 
 /// One line of output with its newline.
-pub type Line = ArrayString<1200>;
+pub type Line = ArrayString<LINE_BYTES>;
 
 /// The frame size of a code, in bytes, the prologue and the check bytes among them (ISO/IEC 14443-4; that codes 9 to
 /// 15 count as 256 is this project's profile).
@@ -20,7 +21,7 @@ pub fn frame_size(code: u8) -> u16
     requires { code < 16 }
     ensures size { result ≡ frame_size code }
     ensures least { 16 ≤ result }
-    ensures most { result ≤ 256 }
+    ensures most { result ≤ FRAME }
 {
     if code < 5 {
         16 + 8 * u16::from(code)
@@ -31,6 +32,6 @@ pub fn frame_size(code: u8) -> u16
     } else if code == 7 {
         128
     } else {
-        256
+        FRAME_16
     }
 }

@@ -17,7 +17,11 @@ pub use activation::{Atqb, AtqbFault, Ats, AtsFault, bit, waiting};
 pub use air::{CardKind, Wave};
 pub use blocks::{BlockFault, Phase};
 pub use buffers::{Buf, FrameBuf, Line, frame_size};
-pub use limits::{INPUT, PIECE};
+pub use limits::{
+    ARENA_BYTES, ARENA_SLOTS, COMMAND, COMMAND_EXCHANGES, DATA, EXCHANGES, FRAME, FRAME_16, INF,
+    INPUT, LAST_START, LINE_BYTES, MESSAGE, NAMED, PAIRS, PIECE, RESPONSE, ROUND_EXCHANGES, ROUNDS,
+    START_EXCHANGES, TOGGLES, TYPE_COMBINATIONS,
+};
 pub use memory::{MemorySink, MemorySource};
 pub use objects::{Node, TlvFault};
 pub use outcome::{Message, OutcomeKind};

@@ -6,7 +6,7 @@ ghost use Rattle.ep_base.specs.PreProcessing.{any_allowed, is_allowed};
 use crate::Indicators;
 use acquirer_config::Combination;
 use arrayvec::ArrayVec;
-use ep_base::Buf;
+use ep_base::{Buf, TYPE_COMBINATIONS};
 use std::default::Default;
 use std::marker::Model;
 
@@ -85,7 +85,7 @@ impl Default for PreparedOne {
 pub struct Prepared {
     txn_type: u8,
     amount: u64,
-    list: ArrayVec<PreparedOne, 16>,
+    list: ArrayVec<PreparedOne, TYPE_COMBINATIONS>,
 }
 
 impl Model for Prepared {
@@ -97,7 +97,11 @@ impl Model for Prepared {
 }
 
 impl Prepared {
-    pub(crate) fn of(txn_type: u8, amount: u64, list: ArrayVec<PreparedOne, 16>) -> Prepared
+    pub(crate) fn of(
+        txn_type: u8,
+        amount: u64,
+        list: ArrayVec<PreparedOne, TYPE_COMBINATIONS>,
+    ) -> Prepared
         ensures { result ≡ record { txn_type = txn_type; amount = amount; list = list.items } }
     {
         Prepared {
@@ -110,7 +114,7 @@ impl Prepared {
     /// The Combinations, the first of which has the number 1.
     pub fn list(&self) -> &[PreparedOne]
         ensures value { result.now ≡ self.now.list }
-        ensures few { length result.now ≤ 16 }
+        ensures few { length result.now ≤ TYPE_COMBINATIONS }
     {
         self.list.as_slice()
     }
@@ -148,8 +152,8 @@ impl Prepared {
     }
 }
 
-fn copy_list(ones: &[PreparedOne]) -> ArrayVec<PreparedOne, 16>
-    requires { length ones.now ≤ 16 }
+fn copy_list(ones: &[PreparedOne]) -> ArrayVec<PreparedOne, TYPE_COMBINATIONS>
+    requires { length ones.now ≤ TYPE_COMBINATIONS }
     ensures { result.items ≡ ones.now }
 {
     let mut list = ArrayVec::new();

@@ -3,7 +3,7 @@ ghost use Rattle.std.specs.Prelude.{◌≡◌, ◌≤◌, ◌<◌, ◌%◌, ◌^
 ghost use Rattle.ep_base.specs.Frame.{is_good, bit_count, inverted, after_burst, hits, HasCheck, FallsOn, InvertsEach};
 
 use crate::copy_frame;
-use ep_base::{FrameBuf, Wave};
+use ep_base::{FRAME, FrameBuf, Wave};
 
 /// A run of at most sixteen bits to be inverted: bit `start + i` of a frame, in sending order and from 0, for each set
 /// bit i of the mask.
@@ -17,7 +17,7 @@ pub struct Burst {
 
 /// How many bits of a frame of `len` bytes are sent: seven of a short frame's first byte, otherwise all.
 fn sent_bit_count(wave: Wave, len: usize) -> usize
-    requires { len ≤ 256 }
+    requires { len ≤ FRAME }
     ensures { result ≡ bit_count wave len }
 {
     match wave {

@@ -5,7 +5,7 @@ ghost use Rattle.arrayvec.specs.ArrayVec.{array_vec_len};
 ghost use Rattle.ep_base.specs.Frame.{is_good, ends_in_check, sealed, opened};
 
 use crate::check;
-use ep_base::{FrameBuf, Wave};
+use ep_base::{FrameBuf, MESSAGE, Wave};
 
 /// Puts these bytes, at most 256, in place of all that a frame has. This takes no memory.
 pub fn refill(frame: &mut FrameBuf, bytes: &[u8])
@@ -28,7 +28,7 @@ pub fn copy_frame(frame: &FrameBuf) -> FrameBuf
 /// Appends the check of a frame of wave `A` or `B`, the low byte first, and leaves a frame of the other waves as it is
 /// (ISO/IEC 14443-3). The frame has at most 254 bytes before.
 pub fn seal(wave: Wave, frame: &mut FrameBuf)
-    requires { array_vec_len frame.old ≤ 254 }
+    requires { array_vec_len frame.old ≤ MESSAGE }
     ensures { frame.new.items ≡ sealed wave frame.old.items }
 {
     match wave {

@@ -5,11 +5,11 @@ ghost use Rattle.ep_base.specs.Hearing.{asks, framed, awaited};
 ghost use Rattle.rf_frame.specs.Meaning.{heard_of, awaited_of};
 
 use crate::{Ask, Heard, RoundEnd, Sent, open_frame, refill, seal};
-use ep_base::{FrameBuf, Wave};
+use ep_base::{FrameBuf, MESSAGE, Wave};
 
 /// A message of at most 254 bytes as a frame of this wave.
 fn frame_of(wave: Wave, message: &[u8]) -> FrameBuf
-    requires { length message.now ≤ 254 }
+    requires { length message.now ≤ MESSAGE }
     ensures { result.items ≡ sealed wave message.now }
 {
     let mut frame = FrameBuf::new();
@@ -19,7 +19,7 @@ fn frame_of(wave: Wave, message: &[u8]) -> FrameBuf
 
 /// Puts a message of at most 254 bytes, as a frame of this wave, in place of all that a frame has.
 pub fn put_message(wave: Wave, message: &[u8], frame: &mut FrameBuf)
-    requires { length message.now ≤ 254 }
+    requires { length message.now ≤ MESSAGE }
     ensures { frame.new.items ≡ sealed wave message.now }
 {
     refill(frame, message);
@@ -28,7 +28,7 @@ pub fn put_message(wave: Wave, message: &[u8], frame: &mut FrameBuf)
 
 /// Asks with a message of at most 254 bytes in a frame of this wave, without a reset and with the waiting number 0.
 pub fn ask_message(wave: Wave, message: &[u8]) -> Ask
-    requires { length message.now ≤ 254 }
+    requires { length message.now ≤ MESSAGE }
     ensures { result ≡ asks wave message.now }
 {
     Ask {
@@ -41,7 +41,7 @@ pub fn ask_message(wave: Wave, message: &[u8]) -> Ask
 
 /// Writes the same ask in place of another.
 pub fn put_ask(wave: Wave, message: &[u8], ask: &mut Ask)
-    requires { length message.now ≤ 254 }
+    requires { length message.now ≤ MESSAGE }
     ensures { ask.new ≡ asks wave message.now }
 {
     ask.reset = false;
@@ -52,7 +52,7 @@ pub fn put_ask(wave: Wave, message: &[u8], ask: &mut Ask)
 
 /// Sends a message of at most 254 bytes in a frame of this wave.
 pub fn sent_message(wave: Wave, message: &[u8]) -> Sent
-    requires { length message.now ≤ 254 }
+    requires { length message.now ≤ MESSAGE }
     ensures { result ≡ framed wave message.now }
 {
     Sent {
@@ -63,7 +63,7 @@ pub fn sent_message(wave: Wave, message: &[u8]) -> Sent
 
 /// Writes the same frame in place of another.
 pub fn put_sent(wave: Wave, message: &[u8], sent: &mut Sent)
-    requires { length message.now ≤ 254 }
+    requires { length message.now ≤ MESSAGE }
     ensures { sent.new ≡ framed wave message.now }
 {
     sent.wave = wave;

@@ -3,6 +3,7 @@ use Rattle.std.specs.Prelude.{◌≡◌, ℕ, ◌+◌, ◌<◌, ◌≤◌, List,
 use Rattle.std.specs.List.{AllByRecursion}
 use Rattle.arrayvec.specs.ArrayVec.{ArrayVec, array_vec_len}
 use Rattle.ep_base.specs.Objects.{IsTag, tag_number, IsLength}
+use Rattle.ep_base.specs.declared.limits.TheConstants.{FRAME}
 
 abbrev pub AreBytes : List ℕ → Type 0
 AreBytes bytes = AllByRecursion (λ b. b < 256) bytes
@@ -27,4 +28,4 @@ Appends Spells old new = (bytes : List ℕ) × Spells bytes × ((other : List �
 
 -- Nothing of this kind fits.
 abbrev pub HasNoRoom : (List ℕ → Type 0) → ArrayVec ℕ → ArrayVec ℕ → Type 0
-HasNoRoom Spells old new = (new.items ≡ old.items) × ((bytes : List ℕ) → Spells bytes → 256 < array_vec_len old + length bytes)
+HasNoRoom Spells old new = (new.items ≡ old.items) × ((bytes : List ℕ) → Spells bytes → FRAME < array_vec_len old + length bytes)

@@ -3,13 +3,13 @@ ghost use Rattle.std.specs.Prelude.{◌≡◌, ◌+◌, ◌≤◌, ◌<◌, ◌+
 ghost use Rattle.arrayvec.specs.ArrayVec.{array_vec_len};
 ghost use Rattle.tlv_core.specs.Written.{IsTagNumber, SpellsTag, SpellsLength, Appends, HasNoRoom};
 
-use ep_base::FrameBuf;
+use ep_base::{FRAME, FrameBuf};
 
 /// Appends all of the bytes, or none where they don't fit.
 fn append(out: &mut FrameBuf, bytes: &[u8]) -> bool
     ensures { MatchBool result
         (out.new.items ≡ out.old.items ++ bytes.now)
-        ((out.new.items ≡ out.old.items) × (256 < array_vec_len out.old + length bytes.now)) }
+        ((out.new.items ≡ out.old.items) × (FRAME < array_vec_len out.old + length bytes.now)) }
 {
     out.try_extend_from_slice(bytes).is_ok()
 }

@@ -6,8 +6,8 @@ use Rattle.acquirer_config.proofs.config.crowd.Goals as goal
 pub loop-txn_type-init : goal.loop-txn_type-init
 loop-txn_type-init c = crowd_all c.args.list.now
 
-pub returns-then-count-gt16-clause-value : goal.returns-then-count-gt16-clause-value
-returns-then-count-gt16-clause-value c =
+pub returns-then-count-gt-TYPE_COMBINATIONS-clause-value : goal.returns-then-count-gt-TYPE_COMBINATIONS-clause-value
+returns-then-count-gt-TYPE_COMBINATIONS-clause-value c =
     let same = c.count_of-count.ensures.value in
     rw same (sym (crowd_here c.loop-txn_type.txn_type c.args.list.now (omega arith) (rw (← same) (omega arith))) ∙ c.loop-txn_type.invariant)
 
