@@ -7,6 +7,7 @@ pub mod Keeping
 pub mod Least
 pub mod Ordering
 pub mod Owning
+pub mod Single
 pub mod Stepping
 pub mod Telling
 pub mod Thirds

@@ -9,7 +9,7 @@ ghost use Rattle.law_turns.specs.Counting.{EveryExchangeCounts, TransactionsAreB
 ghost use Rattle.law_turns.specs.Ending.{OneEnd, RunsEnd, RunsEndWithin};
 ghost use Rattle.law_turns.specs.Growing.{RunsEndInMost, RunsStay, TextsGrow};
 ghost use Rattle.law_turns.specs.Keeping.{TransactionsKeep};
-ghost use Rattle.law_turns.specs.LanePromise.{ToldKeep};
+ghost use Rattle.law_turns.specs.LanePromise.{OneText, ToldKeep};
 ghost use Rattle.law_turns.specs.Pieces.{PiecesAreText};
 ghost use Rattle.law_turns.specs.Telling.{KeepsInRun, RunsTell, TellsReport};
 ghost use Rattle.law_turns.specs.Thirds.{FailsExactlyAtThird};
@@ -65,6 +65,11 @@ pub fn fails_exactly_at_third()
 /// Each is over a new field of a document's cards, which its log carries, and closes the presentation of a found card alone.
 pub fn told_keep()
     ensures { ToldKeep }
+{}
+
+/// The promise of a lane fixes its text: nothing else meets it.
+pub fn one_text()
+    ensures { OneText }
 {}
 
 /// Where no trace is wanted, the text that tells a lane's transactions is the report of their events and their logs.
