@@ -10,6 +10,7 @@ pub mod Logging
 pub mod Making
 pub mod Ordering
 pub mod Owning
+pub mod Single
 pub mod Stepping
 pub mod Telling
 pub mod Thirds

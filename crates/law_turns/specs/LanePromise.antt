@@ -60,3 +60,9 @@ abbrev pub ToldKeep : Type 0
 ToldKeep =
     (traced : Bool) (fsdi lane : ℕ) (jobs : List Job) (cards : List Cards) (text : List ℕ) → AreReady fsdi jobs cards →
     AreTold traced fsdi lane 1 jobs text → LanePromise traced fsdi lane jobs cards text
+
+-- Two texts with one lane's promise are the same (this project's own).
+abbrev pub OneText : Type 0
+OneText =
+    (traced : Bool) (fsdi lane : ℕ) (jobs : List Job) (cards : List Cards) (s t : List ℕ) →
+    LanePromise traced fsdi lane jobs cards s → LanePromise traced fsdi lane jobs cards t → s ≡ t

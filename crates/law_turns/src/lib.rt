@@ -10,7 +10,7 @@ ghost use Rattle.law_turns.specs.Counting.{EveryExchangeCounts, TransactionsAreB
 ghost use Rattle.law_turns.specs.Ending.{OneEnd, RunsEnd, RunsEndWithin};
 ghost use Rattle.law_turns.specs.Growing.{RunsEndInMost, RunsStay, TextsGrow};
 ghost use Rattle.law_turns.specs.Keeping.{TransactionsKeep};
-ghost use Rattle.law_turns.specs.LanePromise.{ToldKeep};
+ghost use Rattle.law_turns.specs.LanePromise.{OneText, ToldKeep};
 ghost use Rattle.law_turns.specs.Logs.{LogsFit};
 ghost use Rattle.law_turns.specs.Pieces.{PiecesAreText};
 ghost use Rattle.law_turns.specs.Telling.{KeepsInRun, RunsTell, TellsReport};
@@ -73,6 +73,11 @@ pub fn told_keep()
 /// record is free, after every count of exchanges, where its room is larger than that.
 pub fn logs_fit()
     ensures { LogsFit }
+{}
+
+/// The promise of a lane fixes its text: nothing else meets it.
+pub fn one_text()
+    ensures { OneText }
 {}
 
 /// Where no trace is wanted, the text that tells a lane's transactions is the report of their events and their logs.
