@@ -1,1 +1,3 @@
+pub mod OneCommand
 pub mod Open
+pub mod Reader

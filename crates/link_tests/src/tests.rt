@@ -22,7 +22,7 @@ const SELECT_PPSE: &[u8] = b"\x00\xa4\x04\x00\x0e2PAY.SYS.DDF01\x00";
 const PPSE_ANSWER: &[u8] =
     b"\x6f\x23\x84\x0e2PAY.SYS.DDF01\xa5\x11\xbf\x0c\x0e\x61\x0c\x4f\x07\xa0\x00\x00\x00\x03\x10\x10\x87\x01\x01\x90\x00";
 
-const SELECT_APP: &[u8] = b"\x00\xa4\x04\x00\x05\xa0\x00\x00\x00\x03\x00";
+pub(crate) const SELECT_APP: &[u8] = b"\x00\xa4\x04\x00\x05\xa0\x00\x00\x00\x03\x00";
 
 // The I-block with SELECT PPSE, and R(NAK) 0, with their check bytes.
 const FIRST_BLOCK: &[u8] = b"\x02\x00\xa4\x04\x00\x0e2PAY.SYS.DDF01\x00\xe0\x42";
@@ -40,7 +40,7 @@ const FRAME_LOST: Fate = Fate {
 };
 
 // The fate of one exchange in which the answer is lost, or the frame.
-fn answer_lost() -> FateRun
+pub(crate) fn answer_lost() -> FateRun
     ensures { IsRun result }
 {
     FateRun::One(ANSWER_LOST)
@@ -102,7 +102,7 @@ fn card(fsc: u16) -> Activated
     }
 }
 
-fn one_response(alloc: Global, bytes: &[u8]) -> Result<Vec<Response>, Fail>
+pub(crate) fn one_response(alloc: Global, bytes: &[u8]) -> Result<Vec<Response>, Fail>
     ensures few { IfOk result (λ v. AreAnswers (unused v.items)) }
     ensures some { IfOk result (λ v. length v.items ≡ 1) }
 {
@@ -112,7 +112,7 @@ fn one_response(alloc: Global, bytes: &[u8]) -> Result<Vec<Response>, Fail>
     Ok(list)
 }
 
-fn app(alloc: Global, response: &[u8], wtx: u8) -> Result<App, Fail>
+pub(crate) fn app(alloc: Global, response: &[u8], wtx: u8) -> Result<App, Fail>
     requires { wtx ≤ 8 }
     ensures { IfOk result IsApp }
 {
@@ -241,11 +241,13 @@ fn selected(
     Ok((end, medium))
 }
 
-// Twenty exchanges whose answer is lost, each before one that passes, and then the fates of a chained response.
-fn many_losses(alloc: Global) -> Result<Vec<FateRun>, Fail>
+// After so many exchanges that pass: twenty whose answer is lost, each before one that passes, and then the fates of a
+// chained response.
+pub(crate) fn many_losses(alloc: Global, before: u32) -> Result<Vec<FateRun>, Fail>
+    requires { 1 ≤ before }
     ensures { IfOk result (λ v. All IsRun v.items) }
 {
-    let mut fates = vec![in alloc; FateRun::Clean(1)]?;
+    let mut fates = vec![in alloc; FateRun::Clean(before)]?;
     'pairs: for _ in 0..20 {
         fates.push(answer_lost())?;
         fates.push(FateRun::Clean(1))?;
@@ -273,7 +275,7 @@ fn the_longest_command_in_the_smallest_frames(rt: HostRuntime) -> Result<(), Fai
     let mut command = [0u8; 261];
     command[0] = 0x80;
     command[4] = 0xff;
-    let fates = many_losses(rt.alloc())?;
+    let fates = many_losses(rt.alloc(), 1)?;
     let (mut end, mut medium) = selected(&rt, 16, &response, 0, fates)?;
     let command = Command::of(&command).map_err(|_| "no command")?;
     match carry(&mut end, &mut medium, &command) {

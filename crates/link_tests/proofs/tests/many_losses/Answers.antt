@@ -8,7 +8,7 @@ one : 1 ≤ 1
 one = omega arith
 
 pub pairs-init : goal.pairs-init
-pairs-init c = with_run [] _ _ c.in_ok-fates.ensures.items (All-nil IsRun) one
+pairs-init c = with_run [] _ _ c.in_ok-fates.ensures.items (All-nil IsRun) c.requires
 
 pub pairs-preserved : goal.pairs-preserved
 pairs-preserved c =
