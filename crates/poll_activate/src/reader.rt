@@ -8,7 +8,7 @@ ghost use Rattle.rf_frame.specs.Meaning.{heard_of, maybe_end, round_end_of};
 ghost use Rattle.poll_activate.specs.Poll.{asked, asked_after, turn, StandsFor};
 
 use ep_base::Wave;
-use rf_frame::{Ask, Heard, RoundEnd, ask_message};
+use rf_frame::{Ask, Heard, RoundEnd, put_ask};
 use std::marker::Model;
 use type_a::AReader;
 use type_b::BReader;
@@ -64,17 +64,27 @@ impl Poll {
         ensures asked { result ≡ asked self.now }
         ensures listed { (answers : List Hearing) → StandsFor self.now answers → result ≡ asked_after self.now.fsdi answers }
     {
+        let mut ask = Ask::blank();
+        self.ask_into(&mut ask);
+        ask
+    }
+
+    /// Writes the next frame, and whether the field is reset before it, in place of another. The round goes on.
+    pub fn ask_into(&self, ask: &mut Ask)
+        requires { IsSome self.now.stage }
+        ensures asked { ask.new ≡ asked self.now }
+        ensures listed { (answers : List Hearing) → StandsFor self.now answers → ask.new ≡ asked_after self.now.fsdi answers }
+    {
         match &self.step {
             Step::Waking => {
-                let mut ask = ask_message(Wave::AShort, &[0x52]);
+                put_ask(Wave::AShort, &[0x52], ask);
                 ask.reset = true;
-                ask
             }
-            Step::Halting => ask_message(Wave::A, &[0x50, 0x00]),
-            Step::WakingB { .. } => ask_message(Wave::B, &[0x05, 0x00, 0x08]),
-            Step::InA(reader) => reader.ask(),
-            Step::InB(reader) => reader.ask(),
-            Step::Over => ask_message(Wave::B, &[]),
+            Step::Halting => put_ask(Wave::A, &[0x50, 0x00], ask),
+            Step::WakingB { .. } => put_ask(Wave::B, &[0x05, 0x00, 0x08], ask),
+            Step::InA(reader) => reader.ask_into(ask),
+            Step::InB(reader) => reader.ask_into(ask),
+            Step::Over => put_ask(Wave::B, &[], ask),
         }
     }
 
