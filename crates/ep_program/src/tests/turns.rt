@@ -120,26 +120,31 @@ fn a_lane_that_is_over_is_skipped(rt: HostRuntime) -> Result<(), Fail> {
     check_order(&rt, "[1, 1, 1, 1, 1, 1, 1, 1, 1, 1, 2]", &order)
 }
 
-/// A probe that counts its hearings, and gives silence for three of them.
+/// A probe that counts down, and gives silence where 8, 6 and 4 hearings are left. It tells its steps, so that they fix
+/// what `serve` writes with it.
 #[derive(Drop)]
 struct Deaf {
-    hearings: u32,
+    left: u8,
 }
 
 impl Probe for Deaf {
-    ghost use Rattle.ep_lanes.specs.Probing.{untold};
+    ghost use Rattle.std.specs.Prelude.{◌-◌, ◌==◌, ◌||◌, ℕ, if◌then◌else◌};
+    ghost use Rattle.ep_base.specs.Hearing.{Silence};
+    ghost use Rattle.ep_lanes.specs.Probing.{told};
 
-    ghost State = { Unit {0} };
+    ghost State = { ℕ };
 
-    ghost state = { λ _. tt };
+    ghost state = { λ d. d.left };
 
-    ghost steps = { untold };
+    ghost steps = { told (record { hear = λ p lane ask heard. (p - 1, if (p == 8) || (p == 6) || (p == 4) then Silence else heard) }) };
 
     fn hear(&mut self, _lane: u8, _ask: &Ask, heard: &Heard) -> Heard {
-        self.hearings = self.hearings.saturating_add(1);
-        match self.hearings {
-            13 | 15 | 17 => Heard::Silence,
-            _ => heard.copy(),
+        let left = self.left;
+        self.left = left.saturating_sub(1);
+        if left == 8 || left == 6 || left == 4 {
+            Heard::Silence
+        } else {
+            heard.copy()
         }
     }
 }
@@ -167,11 +172,11 @@ const SILENCED: &str = "\
 #[test]
 fn a_probe_hears_all_lanes(rt: HostRuntime) -> Result<(), Fail> {
     let document = two_lanes(&rt, "[1, 1, 2, 1]")?;
-    let mut deaf = Deaf { hearings: 0 };
+    let mut deaf = Deaf { left: 20 };
     let left = probed(&rt, &["run"], document.as_bytes(), &[], &[], &mut deaf)?;
     assert_eq!(rt; left.number, 0);
     assert_eq!(rt; left.text(), SILENCED.as_bytes());
-    assert_eq!(rt; deaf.hearings, 19);
+    assert_eq!(rt; deaf.left, 1);
     Ok(())
 }
 
