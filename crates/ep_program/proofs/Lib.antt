@@ -1,3 +1,4 @@
+pub mod Given
 pub mod Loading
 pub mod Numbers
 pub mod Promising

@@ -12,10 +12,9 @@ use Rattle.ep_base.specs.Talk.{Talk}
 use Rattle.ep_base.specs.TraceLine.{Traced}
 use Rattle.lane_replay.specs.WholeReplay.{ReplayEnds}
 use Rattle.lane_report.specs.Works.{talk_in}
-use Rattle.scenario.specs.Document.{IsDocument}
 use Rattle.scenario.specs.Plan.{Plan, plan}
 use Rattle.scenario.specs.Scene.{Scene, scene_of}
-use Rattle.ep_program.specs.Input.{Refuses}
+use Rattle.ep_program.specs.Input.{IsInput, Refuses}
 use Rattle.ep_program.specs.declared.status.Status.{Status}
 use Rattle.ep_program.specs.declared.status.Status.TheVariants.{Done, ReadFault, WriteFault, NoMemory, Usage, TooLong, NotToml, BadDocument, Mismatch}
 
@@ -33,7 +32,7 @@ replay_plan members = do
 
 -- The input, where its bytes are told, is a document with this plan and these trace lines (this project's own).
 abbrev pub GivesTrace : Option (List ℕ) → Plan → List Traced → Type 0
-GivesTrace input p lines = (members : Members) × (replay_plan members ≡ Ok (p, lines)) × IfSome input (λ bytes. IsDocument bytes members)
+GivesTrace input p lines = (members : Members) × (replay_plan members ≡ Ok (p, lines)) × IsInput input members
 
 -- The transactions of a scene's lanes, as what each says and asks; their cards aren't used (EMV Book B).
 abbrev pub talks_in : Scene → List (List Talk)
@@ -65,7 +64,7 @@ Replays input before after (Mismatch m) =
 Replays input before after WriteFault =
     (p : Plan) × (lines : List Traced) × GivesTrace input p lines × WritesReplayPart (scene_of p) lines before after
 Replays input before after (BadDocument f) =
-    (members : Members) × (replay_plan members ≡ Err f) × IfSome input (λ bytes. IsDocument bytes members) × Keeps before after
+    (members : Members) × (replay_plan members ≡ Err f) × IsInput input members × Keeps before after
 Replays input before after ReadFault = Refuses input ReadFault × Keeps before after
 Replays input before after NoMemory = Refuses input NoMemory × Keeps before after
 Replays input before after TooLong = Refuses input TooLong × Keeps before after

@@ -1,25 +1,26 @@
 //! The input.
-ghost use Rattle.std.specs.Prelude.{◌≡◌, IfOk, IfErr, IsErrOf, OnOk};
+ghost use Rattle.std.specs.Prelude.{◌≡◌, IfOk, IfErr, IsErrOf, MatchResult, OnOk};
 ghost use Rattle.std.specs.Io.KnownBytes.{IsAtEnd};
 ghost use Rattle.ep_base.specs.Causes.{HasCause};
-ghost use Rattle.ep_program.specs.Input.{Opens, Refuses};
+ghost use Rattle.ep_base.specs.Io.{Takes};
+ghost use Rattle.ep_program.specs.Input.{IsTooLong, Opens, Refuses};
 
 use crate::status::Status;
-use ep_base::{ReadEnd, Source, read_all};
+use ep_base::{INPUT, ReadEnd, Source, read_all};
 use scenario::{DocEnd, Scenario};
 use std::alloc::Global;
 
-/// The most bytes of an input.
-const LIMIT: usize = 1_048_576;
-
-/// All that comes in, and what it says.
+/// All that comes in, and what it says. `TooLong` comes exactly where more than `INPUT` bytes were given.
 pub fn read<S: Source>(alloc: Global, input: &mut S) -> Result<Scenario, Status>
     ensures ok { IfOk result (Opens (S.left input.old)) }
     ensures err { IfErr result (Refuses (S.left input.old)) }
     ensures whole { OnOk result (IsAtEnd (S.left input.new)) }
+    ensures given { MatchResult result
+        (λ _. Takes INPUT (S.left input.old) (S.left input.new) ⊥)
+        (λ status. Takes INPUT (S.left input.old) (S.left input.new) (IsTooLong status)) }
     ensures cause { HasCause (S.faults input.old) (S.faults input.new) (IsErrOf result Status.ReadFault) }
 {
-    match read_all(alloc, input, LIMIT) {
+    match read_all(alloc, input, INPUT) {
         Ok(bytes) => match Scenario::of_bytes(alloc, &bytes) {
             Ok(scenario) => Ok(scenario),
             Err(DocEnd::NotToml) => Err(Status::NotToml),

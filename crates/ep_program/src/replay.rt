@@ -2,13 +2,15 @@
 ghost use Rattle.std.specs.Prelude.{◌≡◌};
 ghost use Rattle.std.specs.Io.KnownBytes.{IsAtEnd};
 ghost use Rattle.ep_base.specs.Causes.{HasCause};
+ghost use Rattle.ep_base.specs.Io.{Takes};
 ghost use Rattle.ep_program.specs.Headline.{IsReady};
+ghost use Rattle.ep_program.specs.Input.{IsTooLong};
 ghost use Rattle.ep_program.specs.Replay.{Plays, Replays};
 
 use crate::input::read;
 use crate::status::Status;
 use doc_table::{DocKind, Path};
-use ep_base::{NoMemory, Sink, Source};
+use ep_base::{INPUT, NoMemory, Sink, Source};
 use ep_lanes::Lanes;
 use lane_replay::{ReplayEnd, replay_lanes};
 use lane_report::works_of;
@@ -20,6 +22,7 @@ use trace_io::Replay;
 pub fn replay_document<S: Source, K: Sink>(alloc: Global, input: &mut S, output: &mut K) -> Status
     ensures replays { Replays (S.left input.old) (K.written output.old) (K.written output.new) result }
     ensures whole { result ≡ Status.Done → IsAtEnd (S.left input.new) }
+    ensures given { Takes INPUT (S.left input.old) (S.left input.new) (IsTooLong result) }
     ensures read_cause { HasCause (S.faults input.old) (S.faults input.new) (result ≡ Status.ReadFault) }
     ensures write_cause { HasCause (K.faults output.old) (K.faults output.new) (result ≡ Status.WriteFault) }
 {

@@ -2,7 +2,9 @@
 ghost use Rattle.std.specs.Prelude.{◌≡◌, true, false};
 ghost use Rattle.std.specs.Io.KnownBytes.{IsAtEnd};
 ghost use Rattle.ep_base.specs.Causes.{HasCause};
+ghost use Rattle.ep_base.specs.Io.{Takes};
 ghost use Rattle.ep_program.specs.Headline.{IsReady};
+ghost use Rattle.ep_program.specs.Input.{IsTooLong};
 ghost use Rattle.ep_program.specs.Serve.{Reports, Runs, Serves};
 ghost use Rattle.ep_program.specs.Words.{form_of, reads_input};
 
@@ -11,7 +13,7 @@ use crate::input::read;
 use crate::load::load;
 use crate::replay::replay_document;
 use crate::status::Status;
-use ep_base::{NoMemory, Sink, Source};
+use ep_base::{INPUT, NoMemory, Sink, Source};
 use ep_lanes::{Lanes, Probe};
 use lane_report::{report_lanes, works_of};
 use scenario::Scenario;
@@ -66,10 +68,11 @@ use std::alloc::Global;
 ///
 /// # Statuses
 ///
-/// Each status has its reason: `Usage` the words, `BadDocument` the document's first fault, `NotToml` and `TooLong` the
-/// input; `ReadFault` and `WriteFault` come only where a count of faults rose, and `NoMemory` may come for every document
-/// and every load. A replay without a trace is a `BadDocument`, after all other faults. But for `Done`, `WriteFault` and
-/// `Mismatch` nothing is written, and the probe is as it was. A load answers `Done`, `WriteFault` or `NoMemory` alone. With
+/// Each status has its reason: `Usage` the words, `BadDocument` the document's first fault, `NotToml` the input. `TooLong`
+/// comes exactly where more than 1,048,576 bytes were given, and every other answer to a document only where not more were.
+/// `ReadFault` and `WriteFault` come only where a count of faults rose, and `NoMemory` may come for every document and every
+/// load. A replay without a trace is a `BadDocument`, after all other faults. But for `Done`, `WriteFault` and `Mismatch`
+/// nothing is written, and the probe is as it was. A load answers `Done`, `WriteFault` or `NoMemory` alone. With
 /// `Usage` the input is as before too.
 pub fn serve<S: Source, K: Sink, P: Probe>(
     alloc: Global,
@@ -82,6 +85,7 @@ pub fn serve<S: Source, K: Sink, P: Probe>(
         (record { written = K.written output.old; probe = P.state probe.old })
         (record { written = K.written output.new; probe = P.state probe.new }) result }
     ensures whole { result ≡ Status.Done → reads_input (form_of words.now) ≡ true → IsAtEnd (S.left input.new) }
+    ensures given { Takes INPUT (S.left input.old) (S.left input.new) (IsTooLong result) }
     ensures untouched { reads_input (form_of words.now) ≡ false →
         (S.left input.new ≡ S.left input.old) × (S.faults input.new ≡ S.faults input.old) }
     ensures read_cause { HasCause (S.faults input.old) (S.faults input.new) (result ≡ Status.ReadFault) }
@@ -108,6 +112,7 @@ fn report<S: Source, K: Sink, P: Probe>(
         (record { written = K.written output.old; probe = P.state probe.old })
         (record { written = K.written output.new; probe = P.state probe.new }) result }
     ensures whole { result ≡ Status.Done → IsAtEnd (S.left input.new) }
+    ensures given { Takes INPUT (S.left input.old) (S.left input.new) (IsTooLong result) }
     ensures read_cause { HasCause (S.faults input.old) (S.faults input.new) (result ≡ Status.ReadFault) }
     ensures write_cause { HasCause (K.faults output.old) (K.faults output.new) (result ≡ Status.WriteFault) }
 {

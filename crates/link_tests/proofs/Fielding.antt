@@ -3,7 +3,7 @@ use Rattle.std.proofs.Common.{◌≡◌, ◌⊎◌, ℕ, zero, suc, ◌+◌, ◌
 use Rattle.std.proofs.lemmas.Bool.{and_parts}
 use Rattle.ep_base.specs.declared.air.CardKind.{CardKind}
 use Rattle.ep_base.specs.Block.{Block, Deselect}
-use Rattle.ep_base.specs.BlockField.{fresh_card}
+use Rattle.ep_base.specs.CardEnd.{fresh_card}
 use Rattle.ep_base.specs.CardAnswer.{IsImage}
 use Rattle.ep_base.specs.CardEnd.{Card, is_halted}
 use Rattle.ep_base.specs.Carry.{SendsBlock, Follows, OfLink, AtRest}
