@@ -11,5 +11,6 @@ pub mod Ordering
 pub mod Owning
 pub mod Stepping
 pub mod Telling
+pub mod Toggling
 pub mod Worked
 pub mod Writing
