@@ -14,5 +14,6 @@ pub mod Single
 pub mod Stepping
 pub mod Telling
 pub mod Thirds
+pub mod Toggling
 pub mod Worked
 pub mod Writing
