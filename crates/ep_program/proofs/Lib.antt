@@ -4,3 +4,4 @@ pub mod Promising
 pub mod Ready
 pub mod Replaying
 pub mod Thirds
+pub mod Within
