@@ -4,3 +4,4 @@ pub mod Numbers
 pub mod Promising
 pub mod Ready
 pub mod Replaying
+pub mod Within

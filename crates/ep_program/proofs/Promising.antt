@@ -31,7 +31,7 @@ use Rattle.ep_program.specs.Promise.{GivesOn, HasPromise}
 -- ---- a run with a probe that gives on what it gets is one with the open probe
 
 -- The run with the open probe in place of its own.
-abbrev opened : {P : Type 0} → Run P → Run (Unit {0})
+abbrev pub opened : {P : Type 0} → Run P → Run (Unit {0})
 opened run = record { lanes = run.lanes; order = run.order; probe = tt; text = run.text }
 
 module _ {P : Type 0} (steps : ProbeSteps P) (gives : GivesOn steps) (traced : Bool) (fsdi count : ℕ) where
@@ -49,7 +49,7 @@ module _ {P : Type 0} (steps : ProbeSteps P) (gives : GivesOn steps) (traced : B
       ∙ (ap (λ a. asks traced open_probe fsdi n o g a (opened run)) (sym x)
       ∙ ap (λ l. turn_of traced open_probe fsdi n o l (opened run)) (sym d)))
 
-  opened_after : (n : ℕ) (run : Run P)
+  pub opened_after : (n : ℕ) (run : Run P)
       → opened (times (run_step traced steps fsdi count) n run) ≡ times (run_step traced open_probe fsdi count) n (opened run)
   opened_after zero run = refl
   opened_after (suc n) run =

@@ -29,6 +29,7 @@ use Rattle.ep_program.specs.Serve.{Outside, IsTextOf, Writes, WritesPart, Report
 use Rattle.ep_program.specs.declared.status.Status.{Status}
 use Rattle.ep_program.specs.declared.status.Status.TheVariants.{Done, ReadFault, WriteFault, NoMemory, Usage, TooLong, NotToml, BadDocument, Mismatch}
 use Rattle.ep_program.proofs.Promising.{MayBegin, may_begin, promised}
+use Rattle.ep_program.proofs.Within.{is_bounded_run, keeps_records_free}
 
 -- ---- the transactions of an accepted document may begin
 
@@ -153,6 +154,8 @@ is_text : {P : Type 0} (steps : ProbeSteps P) (traced : Bool) (s : Scene) (p : P
     → IsTextOf steps traced s p text q
 is_text steps traced s p text q ready run = record {
   run = run;
+  bounded = is_bounded_run traced steps s p ready;
+  free = λ gives. keeps_records_free traced steps s p ready gives;
   promise = λ gives.
       subst (λ t. HasPromise traced s.fsdi s.turns (jobs_in s) t) (sym run.text_is)
       (promised steps traced s.fsdi s.turns p (jobs_in s) run.exchanges gives (lanes_begin s.config s.fsdi s.lanes ready.fresh) run.over);

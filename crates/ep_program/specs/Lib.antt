@@ -1,3 +1,4 @@
+pub mod Bounded
 pub mod Headline
 pub mod Input
 pub mod Load

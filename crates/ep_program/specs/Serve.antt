@@ -9,6 +9,7 @@ use Rattle.lane_report.specs.Reports.{HasRun}
 use Rattle.lane_report.specs.Shows.{Tells}
 use Rattle.scenario.specs.Plan.{Plan}
 use Rattle.scenario.specs.Scene.{Scene, scene_of}
+use Rattle.ep_program.specs.Bounded.{IsBoundedRun, KeepsRecordsFree}
 use Rattle.ep_program.specs.Headline.{jobs_in}
 use Rattle.ep_program.specs.Input.{Gives, Refuses}
 use Rattle.ep_program.specs.Load.{Loads}
@@ -24,10 +25,12 @@ pub record Outside (P : Type 0) : Type 0 where
   pub written : Option (List ℕ)
   pub probe : P
 
--- The text of a scene's run with a probe of these steps, which leaves the probe in this state; it has the promise where the probe gives on what it
--- gets (this project's own).
+-- The text of a scene's run with a probe of these steps, which leaves the probe in this state; the run stays within its bounds, and where the probe
+-- gives on what it gets a record is always free, and the text has the promise (this project's own).
 pub record IsTextOf {P : Type 0} (steps : ProbeSteps P) (traced : Bool) (s : Scene) (p : P) (text : List ℕ) (q : P) : Type 0 where
   pub run : HasRun traced steps s.fsdi s.turns p (jobs_in s) text q
+  pub bounded : IsBoundedRun traced steps s p
+  pub free : GivesOn steps → KeepsRecordsFree traced steps s p
   pub promise : GivesOn steps → HasPromise traced s.fsdi s.turns (jobs_in s) text
 
 -- The whole text of a scene's run was appended, and the probe is as the run leaves it, where the probe has these steps (this project's own).

@@ -33,7 +33,10 @@ use std::alloc::Global;
 ///
 /// What the reader hears in each exchange is what the probe makes of what the field gave. Where the probe tells its steps,
 /// these fix all exchanges together, one after another: `Done` comes with the text of this run, whole, and with the probe as
-/// the last exchange left it.
+/// the last exchange left it. Whatever such a probe makes of the hearings, the exchanges stay within their bounds: a poll round
+/// has at most 11, a Start B 64 rounds, a transaction one Start B more than scripts and at most the commands that its scripts
+/// and Combinations bound, a command 280 toggles of the reader's number, and from one toggle to the next, or from the opening
+/// of the link, there are at most 32.
 ///
 /// This is the promise of the whole program, for the probe that gives on what it gets. Whatever frames are lost or damaged
 /// by a burst, whichever cards are present in a round and whenever they leave, and in whatever order the lanes make their
@@ -49,6 +52,7 @@ use std::alloc::Global;
 ///   those of the events and the commands of the perfect runs.
 /// - Each lane writes what it writes alone, with its own number and without a turn list.
 /// - There is one such text, and no other can be written.
+/// - A transaction's log has at most as many records as it sends commands at most, and at each exchange a record is free.
 ///
 /// A sink that fails leaves a first part of that text, with `WriteFault`.
 ///
