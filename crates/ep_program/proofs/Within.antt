@@ -10,7 +10,7 @@ use Rattle.ep_base.specs.PreProcessing.{prepared_one, prepared}
 use Rattle.law_run.specs.Bounds.{AtMost, AtMostStarts, log_bound}
 use Rattle.law_run.proofs.Bounding.{few_commands_lem, few_starts_lem}
 use Rattle.law_run.proofs.Scripting.{scripts_fall_lem}
-use Rattle.law_transaction.proofs.Talking.{scripted_lem}
+use Rattle.law_run.proofs.Legal.{scripted_lem}
 use Rattle.law_lane.specs.Standing.{Standing, started}
 use Rattle.law_lane.specs.Exchanges.{Lane}
 use Rattle.law_turns.specs.Bounds.{heard_in, counts_after, NextFits, IsUnderWay}
@@ -31,7 +31,8 @@ use Rattle.law_turns.proofs.Telling.{keeps_in_run_law}
 use Rattle.lane_report.specs.Works.{preparation, talk_in, job_of}
 use Rattle.scenario.specs.Scene.{Work, Scene}
 use Rattle.ep_program.specs.Headline.{jobs_in, IsFresh, IsReady}
-use Rattle.ep_program.specs.Promise.{cards_in, GivesOn}
+use Rattle.ep_program.specs.Promise.{GivesOn}
+use Rattle.law_turns.specs.Keeping.{cards_in}
 use Rattle.ep_program.specs.Bounded.{commands_most, starts_most, works_of, IsInWork, StaysWithin, exchanges_of, IsBoundedRun, HasFreeRecord, KeepsRecordsFree}
 use Rattle.ep_program.proofs.Promising.{opened_after, may_begin}
 
