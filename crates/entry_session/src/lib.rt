@@ -4,9 +4,9 @@
 
 mod candidates;
 mod direct;
+mod hearing;
 mod holding;
 mod kernel;
-mod radio;
 mod ran;
 mod session;
 mod starting;
