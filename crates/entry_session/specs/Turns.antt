@@ -2,19 +2,22 @@
 use Rattle.std.specs.Prelude.{◌≡◌, ℕ, Bool, true, false, List, [], ◌∷◌, ◌++◌, Option, Some, None}
 use Rattle.block_reader.specs.Stands as links
 use Rattle.ep_base.specs.Arena.{Object}
-use Rattle.ep_base.specs.Hearing.{RoundEnd}
+use Rattle.ep_base.specs.Hearing.{Asked, Hearing, RoundEnd}
 use Rattle.ep_base.specs.Kernel.{KernelSteps}
 use Rattle.ep_base.specs.PreProcessing.{Ready}
 use Rattle.ep_base.specs.Said.{Said}
 use Rattle.ep_base.specs.Talk.{Talk}
 use Rattle.ep_base.specs.TransportRun.{HearEnd}
-use Rattle.law_lane.specs.Standing.{Standing, Stopped, asked_by, events_of}
+use Rattle.law_lane.specs.Standing.{Doing, Standing, Stopped, asked_by, events_of}
 use Rattle.poll_activate.specs.Meaning.{ends_of}
 use Rattle.session_event.specs.Event.{said_of_end}
 use Rattle.session_event.specs.declared.event.End.{End}
+use Rattle.session_event.specs.declared.event.End.TheVariants as ending
+use Rattle.session_phases.specs.Causes.{EndDecided, FailedIn, IsDecided, IsNoCard}
 use Rattle.session_phases.specs.Shown.{rounds_of, Fits}
 use Rattle.session_phases.specs.Stands.{link_held, can_go_on, StepStands}
-use Rattle.session_phases.specs.declared.steps.Step.{Step}
+use Rattle.session_phases.specs.Plain.{Step, step_of}
+use Rattle.session_phases.specs.declared.steps.Presentation.{Presentation}
 use Rattle.entry_session.specs.declared.turn.Turn.{Turn}
 use Rattle.entry_session.specs.declared.turn.Turn.TheVariants as turns
 use Rattle.entry_session.specs.declared.holding.Task.{Task}
@@ -39,25 +42,34 @@ pub record View (S : Type 0) : Type 0 where
   pub work : Option (Work S)
 
 -- What is held of a transaction, if one is open (this project's own).
-abbrev pub work_of : {K S : Type 0} → (K → S) → (opened fresh : K → Bool) → Option (Task K) → Option (Work S)
-work_of state opened fresh None = None
-work_of state opened fresh (Some t) = Some (record {
+abbrev pub work_of : {K S : Type 0} → (K → S) → (opened fresh : K → Bool) → Presentation → Option (Task K) → Option (Work S)
+work_of state opened fresh presentation None = None
+work_of state opened fresh presentation (Some t) = Some (record {
   ones = t.prepared.list;
   kernels = state t.kernels;
   opened = opened t.kernels;
   fresh = fresh t.kernels;
   fsdi = t.fsdi;
-  step = t.step;
+  step = step_of t.phase presentation.round presentation.selection;
 })
+
+-- What a session keeps and holds, in plain data, by what its kernels hold (this project's own).
+abbrev pub view_in : {K S : Type 0} → (K → S) → (opened fresh : K → Bool) → Presentation → Option (Task K) → View S
+view_in state opened fresh presentation task = record {
+  objects = presentation.arena.objects;
+  link = link_held presentation.link;
+  rounds = ends_of presentation.rounds.items;
+  work = work_of state opened fresh presentation task;
+}
 
 -- A session in plain data, by what its kernels hold (this project's own).
 abbrev pub view_of : {K S : Type 0} → (K → S) → (opened fresh : K → Bool) → Session K → View S
-view_of state opened fresh s = record {
-  objects = s.desk.arena.objects;
-  link = link_held s.desk.link;
-  rounds = ends_of s.desk.rounds.items;
-  work = work_of state opened fresh s.task;
-}
+view_of state opened fresh s = view_in state opened fresh s.presentation s.task
+
+-- What is held after an exchange: nothing where the transaction has ended (this project's own).
+abbrev pub task_after : {K : Type 0} → Option End → Task K → Option (Task K)
+task_after None t = Some t
+task_after (Some end) t = None
 
 -- Whether a transaction is open, and its step can go on (this project's own).
 abbrev pub work_goes_on : {S : Type 0} → Option links.Held → Option (Work S) → Bool
@@ -72,6 +84,11 @@ is_open v = work_goes_on v.link v.work
 abbrev pub is_ask : Turn → Bool
 is_ask (turns.Ask ask) = true
 is_ask (turns.Ended end) = false
+
+-- A session's answer where what is asked was written into a place of the caller's (this project's own).
+abbrev pub turn_of : Option End → Asked → Turn
+turn_of None ask = turns.Ask ask
+turn_of (Some end) ask = turns.Ended end
 
 -- The transaction is over (this project's own).
 pub record IsOver (st : Standing) : Type 0 where
@@ -100,14 +117,42 @@ pub record StandsFor {S : Type 0} (k : KernelSteps S) (v : View S) (talk : Talk)
   pub rounds : v.rounds ≡ rounds_of st
   pub fits : WorkFits v.work v.rounds
 
--- The transaction is over, and its end's word is the last of its events (this project's own).
+-- The transaction is over, and its end's word is the last of its events; where it was carried through, an outcome stands before that (this
+-- project's own).
 pub record EndedBy (end : End) (talk : Talk) (st : Standing) : Type 0 where
   pub ending : HearEnd
   pub stopped : st.doing ≡ Stopped ending
   pub before : List Said
   pub last : events_of talk st ≡ before ++ said_of_end end ∷ []
+  pub decided : EndDecided end before
 
 -- A session's answer in a standing of its talk: what is asked in the next exchange, or the end (this project's own).
 abbrev pub Answers : Turn → ℕ → Talk → Standing → Type 0
 Answers (turns.Ask ask) fsdi talk st = asked_by fsdi st.doing ≡ Some ask
 Answers (turns.Ended end) fsdi talk st = EndedBy end talk st
+
+-- How the cause of an end shows: carried through, an outcome stands before the end; without a card, all 64 rounds of the last Start B have ended
+-- and none found one; at a failed link, the reader's table gives the failure at the last exchange that is kept: the third bad one, or the breach
+-- (this project's profile).
+abbrev pub CauseShows : End → Hearing → Doing → (rounds : List RoundEnd) → (link : Option links.Held) → (events : List Said) → Type 0
+CauseShows ending.Done heard doing rounds link events = IsDecided ending.Done events
+CauseShows ending.Link heard doing rounds link events = FailedIn ending.Link heard doing link
+CauseShows ending.NoCard heard doing rounds link events = IsNoCard rounds
+CauseShows ending.Breach heard doing rounds link events = FailedIn ending.Breach heard doing link
+
+-- The same of a session's answer, where it is an end (this project's own).
+abbrev pub ShowsCause : Turn → Hearing → Doing → (rounds : List RoundEnd) → (link : Option links.Held) → (events : List Said) → Type 0
+ShowsCause (turns.Ask ask) heard doing rounds link events = Unit {0}
+ShowsCause (turns.Ended end) heard doing rounds link events = CauseShows end heard doing rounds link events
+
+-- Before the first exchange a transaction ends only as Entry Point decides, after an outcome (EMV Book B).
+abbrev pub BeginCauseShows : End → (events : List Said) → Type 0
+BeginCauseShows ending.Done events = IsDecided ending.Done events
+BeginCauseShows ending.Link events = ⊥
+BeginCauseShows ending.NoCard events = ⊥
+BeginCauseShows ending.Breach events = ⊥
+
+-- The same of a session's first answer, where it is an end (this project's own).
+abbrev pub ShowsBeginCause : Turn → (events : List Said) → Type 0
+ShowsBeginCause (turns.Ask ask) events = Unit {0}
+ShowsBeginCause (turns.Ended end) events = BeginCauseShows end events

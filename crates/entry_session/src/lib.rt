@@ -4,6 +4,7 @@
 
 mod candidates;
 mod direct;
+mod hearing;
 mod holding;
 mod kernel;
 mod ran;

@@ -13,21 +13,21 @@ ghost use Rattle.session_phases.specs.Shown.{kept_of, kept_then};
 ghost use Rattle.session_phases.specs.Told.{told_by};
 ghost use Rattle.entry_session.specs.Meaning.{left_of, run_end_of};
 ghost use Rattle.entry_session.specs.Causes.{Caused};
-ghost use Rattle.entry_session.specs.Turns.{view_of, is_open, is_ask, StandsFor, Answers};
+ghost use Rattle.entry_session.specs.Turns.{view_of, is_open, is_ask, turn_of, ShowsBeginCause, ShowsCause, StandsFor, Answers};
 
+use crate::hearing::hear_task;
 use crate::holding::{Session, Task};
 use crate::ran::Ran;
 use crate::turn::Turn;
 use crate::whole::run_whole;
 use block_reader::Kept;
-use ep_base::NoMemory;
+use ep_base::{FrameBuf, NoMemory, Wave};
 use kernel_port::Kernels;
 use link::Transport;
-use poll_activate::Rounds;
 use pre_processing::Prepared;
-use rf_frame::{Heard, RoundEnd};
-use session_event::{EventList, Events};
-use session_phases::{Desk, Onward, begin, hear};
+use rf_frame::{Ask, Heard, RoundEnd};
+use session_event::{End, EventList, Events};
+use session_phases::{Onward, Presentation, begin};
 use std::alloc::Global;
 use tlv_arena::Arena;
 
@@ -36,21 +36,29 @@ const ARENA_BYTES: usize = 1024;
 
 const ARENA_SLOTS: usize = 192;
 
+// What is asked by no one.
+fn nothing() -> Ask {
+    Ask {
+        reset: false,
+        wave: Wave::A,
+        frame: FrameBuf::new(),
+        wait: 0,
+    }
+}
+
 impl<K: Kernels + Drop> Session<K> {
     /// A session with an empty arena of 1,024 bytes and 192 slots, in which no transaction is open.
     ///
     /// Errors: `NoMemory`.
     pub fn open(alloc: Global) -> Result<Session<K>, NoMemory>
-        ensures empty { IfOk result (λ s. s.desk.arena.contents ≡ opened 1024 192) }
+        ensures empty { IfOk result (λ s. s.presentation.arena.contents ≡ opened 1024 192) }
         ensures closed { IfOk result (λ s. is_open (view_of K.state K.is_open K.is_fresh s) ≡ false) }
     {
         let arena = Arena::open(alloc, ARENA_BYTES, ARENA_SLOTS)?;
-        let desk = Desk {
-            arena,
-            link: None,
-            rounds: Rounds::new(),
-        };
-        Ok(Session { desk, task: None })
+        Ok(Session {
+            presentation: Presentation::open(arena),
+            task: None,
+        })
     }
 
     /// Runs a transaction from its first event to its end, with the starts A to D of Entry Point (EMV Book B). A
@@ -84,9 +92,15 @@ impl<K: Kernels + Drop> Session<K> {
         ensures none_kept { kept_of (view_of K.state K.is_open K.is_fresh self.new).link ≡ [] }
     {
         self.task = None;
-        self.desk.link = None;
-        self.desk.rounds.clear();
-        run_whole(&mut self.desk.arena, prepared, kernels, transport, events)
+        self.presentation.link = None;
+        self.presentation.rounds.clear();
+        run_whole(
+            &mut self.presentation.arena,
+            prepared,
+            kernels,
+            transport,
+            events,
+        )
     }
 
     /// Begins a transaction after Pre-Processing, with a reader of this FSDI, below 16, and says what is asked in its
@@ -107,22 +121,59 @@ impl<K: Kernels + Drop> Session<K> {
             told_by events.new.items ≡ events_of talk (started talk) }
         ensures answers { let talk = transaction K.steps prepared.now.txn_type prepared.now.amount prepared.now.list (K.state kernels) in
             Answers result fsdi talk (started talk) }
+        ensures cause { ShowsBeginCause result (told_by events.new.items) }
         ensures is_open { is_open (view_of K.state K.is_open K.is_fresh self.new) ≡ is_ask result }
         ensures kept { kept_of (view_of K.state K.is_open K.is_fresh self.new).link ≡ [] }
     {
-        match begin(prepared, &kernels, fsdi, &mut self.desk, events) {
-            Onward::Ask { ask, step } => {
+        let mut ask = nothing();
+        match self.start_into(prepared, kernels, fsdi, events, &mut ask) {
+            None => Turn::Ask(ask),
+            Some(end) => Turn::Ended(end),
+        }
+    }
+
+    /// The same, where what is asked is written into `ask`: `None`, or how it ended.
+    pub fn start_into(
+        &mut self,
+        prepared: &Prepared,
+        kernels: K,
+        fsdi: u8,
+        events: &mut EventList,
+        ask: &mut Ask,
+    ) -> Option<End>
+        requires closed { is_open (view_of K.state K.is_open K.is_fresh self.old) ≡ false }
+        requires code { fsdi < 16 }
+        requires empty { array_vec_len events.old ≡ 0 }
+        ensures stands { let talk = transaction K.steps prepared.now.txn_type prepared.now.amount prepared.now.list (K.state kernels) in
+            StandsFor K.steps (view_of K.state K.is_open K.is_fresh self.new) talk fsdi (started talk) }
+        ensures events { let talk = transaction K.steps prepared.now.txn_type prepared.now.amount prepared.now.list (K.state kernels) in
+            told_by events.new.items ≡ events_of talk (started talk) }
+        ensures answers { let talk = transaction K.steps prepared.now.txn_type prepared.now.amount prepared.now.list (K.state kernels) in
+            Answers (turn_of result ask.new) fsdi talk (started talk) }
+        ensures cause { ShowsBeginCause (turn_of result ask.new) (told_by events.new.items) }
+        ensures is_open { is_open (view_of K.state K.is_open K.is_fresh self.new) ≡ is_ask (turn_of result ask.new) }
+        ensures kept { kept_of (view_of K.state K.is_open K.is_fresh self.new).link ≡ [] }
+    {
+        match begin(
+            prepared,
+            &kernels,
+            fsdi,
+            &mut self.presentation,
+            events,
+            ask,
+        ) {
+            Onward::Goes(phase) => {
                 self.task = Some(Task {
                     prepared: prepared.copy(),
                     kernels,
                     fsdi,
-                    step,
+                    phase,
                 });
-                Turn::Ask(ask)
+                None
             }
             Onward::Ended(end) => {
                 self.task = None;
-                Turn::Ended(end)
+                Some(end)
             }
         }
     }
@@ -138,35 +189,51 @@ impl<K: Kernels + Drop> Session<K> {
             → events_of talk st ++ told_by events.new.items ≡ events_of talk (after_hearing fsdi talk (heard_of heard.now) st) }
         ensures answers { (talk : Talk) (fsdi : ℕ) (st : Standing) → StandsFor K.steps (view_of K.state K.is_open K.is_fresh self.old) talk fsdi st
             → Answers result fsdi talk (after_hearing fsdi talk (heard_of heard.now) st) }
+        ensures cause { (talk : Talk) (fsdi : ℕ) (st : Standing) → StandsFor K.steps (view_of K.state K.is_open K.is_fresh self.old) talk fsdi st
+            → ShowsCause result (heard_of heard.now) st.doing (view_of K.state K.is_open K.is_fresh self.new).rounds (view_of K.state K.is_open K.is_fresh self.new).link
+            (events_of talk (after_hearing fsdi talk (heard_of heard.now) st)) }
         ensures is_open { is_open (view_of K.state K.is_open K.is_fresh self.new) ≡ is_ask result }
         ensures kept { (talk : Talk) (fsdi : ℕ) (st : Standing) → StandsFor K.steps (view_of K.state K.is_open K.is_fresh self.old) talk fsdi st
             → kept_of (view_of K.state K.is_open K.is_fresh self.new).link ≡ kept_then (heard_of heard.now) st (kept_of (view_of K.state K.is_open K.is_fresh self.old).link) }
     {
-        let Task {
-            prepared,
-            mut kernels,
-            fsdi,
-            step,
-        } = self.task.take().unwrap();
-        match hear(
-            step,
-            &prepared,
-            &mut kernels,
-            fsdi,
-            &mut self.desk,
-            heard,
-            events,
-        ) {
-            Onward::Ask { ask, step } => {
-                self.task = Some(Task {
-                    prepared,
-                    kernels,
-                    fsdi,
-                    step,
-                });
-                Turn::Ask(ask)
+        let mut ask = nothing();
+        match self.advance_into(heard, events, &mut ask) {
+            None => Turn::Ask(ask),
+            Some(end) => Turn::Ended(end),
+        }
+    }
+
+    /// The same, where what is asked is written into `ask`: `None`, or how it ended.
+    pub fn advance_into(
+        &mut self,
+        heard: &Heard,
+        events: &mut EventList,
+        ask: &mut Ask,
+    ) -> Option<End>
+        requires opened { is_open (view_of K.state K.is_open K.is_fresh self.old) ≡ true }
+        requires empty { array_vec_len events.old ≡ 0 }
+        ensures stands { (talk : Talk) (fsdi : ℕ) (st : Standing) → StandsFor K.steps (view_of K.state K.is_open K.is_fresh self.old) talk fsdi st
+            → StandsFor K.steps (view_of K.state K.is_open K.is_fresh self.new) talk fsdi (after_hearing fsdi talk (heard_of heard.now) st) }
+        ensures events { (talk : Talk) (fsdi : ℕ) (st : Standing) → StandsFor K.steps (view_of K.state K.is_open K.is_fresh self.old) talk fsdi st
+            → events_of talk st ++ told_by events.new.items ≡ events_of talk (after_hearing fsdi talk (heard_of heard.now) st) }
+        ensures answers { (talk : Talk) (fsdi : ℕ) (st : Standing) → StandsFor K.steps (view_of K.state K.is_open K.is_fresh self.old) talk fsdi st
+            → Answers (turn_of result ask.new) fsdi talk (after_hearing fsdi talk (heard_of heard.now) st) }
+        ensures cause { (talk : Talk) (fsdi : ℕ) (st : Standing) → StandsFor K.steps (view_of K.state K.is_open K.is_fresh self.old) talk fsdi st
+            → ShowsCause (turn_of result ask.new) (heard_of heard.now) st.doing (view_of K.state K.is_open K.is_fresh self.new).rounds (view_of K.state K.is_open K.is_fresh self.new).link
+            (events_of talk (after_hearing fsdi talk (heard_of heard.now) st)) }
+        ensures is_open { is_open (view_of K.state K.is_open K.is_fresh self.new) ≡ is_ask (turn_of result ask.new) }
+        ensures kept { (talk : Talk) (fsdi : ℕ) (st : Standing) → StandsFor K.steps (view_of K.state K.is_open K.is_fresh self.old) talk fsdi st
+            → kept_of (view_of K.state K.is_open K.is_fresh self.new).link ≡ kept_then (heard_of heard.now) st (kept_of (view_of K.state K.is_open K.is_fresh self.old).link) }
+    {
+        let Some(task) = &mut self.task else {
+            unreachable!()
+        };
+        match hear_task(task, &mut self.presentation, heard, events, ask) {
+            None => None,
+            Some(end) => {
+                self.task = None;
+                Some(end)
             }
-            Onward::Ended(end) => Turn::Ended(end),
         }
     }
 
@@ -175,7 +242,7 @@ impl<K: Kernels + Drop> Session<K> {
         ensures ends { ends_of result.now ≡ (view_of K.state K.is_open K.is_fresh self.now).rounds }
         ensures most { length result.now ≤ 64 }
     {
-        self.desk.rounds.as_slice()
+        self.presentation.rounds.as_slice()
     }
 
     /// What the reader's end of the last link lends: its exchanges since its block number's last toggle. They stay until
@@ -184,7 +251,7 @@ impl<K: Kernels + Drop> Session<K> {
         ensures exchanges { result.now ≡ kept_of (view_of K.state K.is_open K.is_fresh self.now).link }
         ensures most { length result.now ≤ 32 }
     {
-        match &self.desk.link {
+        match &self.presentation.link {
             Some(end) => end.since_toggle(),
             None => &[],
         }

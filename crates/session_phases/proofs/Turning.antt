@@ -1,12 +1,9 @@
 -- What is asked over a link, and where a transaction stands then.
-use Rattle.std.proofs.Common.{◌≡◌, ℕ, zero, suc, ◌+◌, ◌-◌, ◌<◌, ◌≤◌, Bool, true, false, List, [], ◌∷◌, ◌++◌, length, Option, Some, None, refl, ap, sym, subst, ◌∙◌, arith, append_assoc, append-nil}
-use Rattle.std.specs.Prelude.{if◌then◌else◌}
+use Rattle.std.proofs.Common.{◌≡◌, ℕ, zero, suc, ◌<◌, ◌≤◌, Bool, true, false, List, [], ◌∷◌, ◌++◌, length, Option, Some, None, refl, ap, sym, subst, ◌∙◌, arith, append_assoc, append-nil}
 use Rattle.ep_base.specs.declared.outcome.Message.TheVariants.{OneCardOnly}
 use Rattle.ep_base.specs.Apdu.{select, ppse_name}
 use Rattle.ep_base.specs.Arena.{Object}
-use Rattle.ep_base.specs.Block.{Deselect}
 use Rattle.ep_base.specs.Candidates.{candidates}
-use Rattle.ep_base.specs.Carry.{turn_on}
 use Rattle.ep_base.specs.Dialogue.{opened}
 use Rattle.ep_base.specs.Directory.{directory}
 use Rattle.ep_base.specs.declared.air.CardKind.{CardKind}
@@ -15,20 +12,20 @@ use Rattle.ep_base.specs.EntryPoint.{ends, start_b, starts, presented, selects}
 use Rattle.ep_base.specs.Hearing.{Activated, Asked, Hearing, RoundEnd}
 use Rattle.ep_base.specs.Hearing as rounds
 use Rattle.ep_base.specs.Kernel.{KernelSteps}
-use Rattle.ep_base.specs.LinkFrames.{LinkSetting, block_ask}
+use Rattle.ep_base.specs.LinkFrames.{LinkSetting}
 use Rattle.ep_base.specs.PreProcessing.{Ready}
 use Rattle.ep_base.specs.Radio.{OpenLink, setting_of, link_to}
 use Rattle.ep_base.specs.ReaderEnd.{Reader, Turn, Asks, Gives, Spends, Breaks, asked, begin}
 use Rattle.ep_base.specs.Round.{Stage, Waking, round_asks, round_hears}
-use Rattle.ep_base.specs.Said.{Said, Ending, End, EndLink, EndBreach, Finished, NoCard, Tells, Candidates}
+use Rattle.ep_base.specs.Said.{Said, Ending, End, EndLink, EndBreach, Finished, NoCard, Candidates}
 use Rattle.ep_base.specs.Talk.{Talk, Result, Response, Round, Closed, Over, Say, Poll, Command, Close, Wish, Polls, Commands, Closes, Nothing, so_far, by_end}
 use Rattle.ep_base.specs.Talk as talks
-use Rattle.ep_base.specs.TransportRun.{HearEnd, Whole, AtLink, AtBreach, said_for, end_said}
-use Rattle.block_reader.specs.Stands.{Held, Asking, Rests, Fails, StandsAt, Says}
+use Rattle.ep_base.specs.TransportRun.{HearEnd, Whole, AtLink, AtBreach, said_for}
+use Rattle.block_reader.specs.Stands.{Held, Asking, Rests, StandsAt, Says}
 use Rattle.block_reader.specs.declared.ends.Next.TheVariants as nexts
 use Rattle.block_reader.specs.declared.ends.LinkEnd.{LinkEnd}
 use Rattle.block_reader.specs.declared.ends.LinkEnd.TheVariants as failures
-use Rattle.law_lane.specs.Standing.{Doing, Rounds, Carries, Closing, Stopped, Standing, begins, doing_by, standing, started, asks_block, asked_by, link_by, after_stage, after_turn, hears_by, after_hearing, ending_of, events_by, events_of}
+use Rattle.law_lane.specs.Standing.{Doing, Rounds, Carries, Closing, Stopped, Standing, begins, doing_by, standing, asks_block, asked_by, after_stage, after_turn, hears_by, after_hearing, ending_of, events_by, events_of}
 use Rattle.poll_activate.specs.Poll.{PollState}
 use Rattle.poll_activate.specs.Poll as polling
 use Rattle.session_event.specs.Event.{said_of_end}
@@ -36,17 +33,12 @@ use Rattle.session_event.specs.declared.event.End as ends_declared
 use Rattle.session_event.specs.declared.event.End.TheVariants as ending
 use Rattle.session_phases.specs.Ends.{end_of_failure}
 use Rattle.session_event.specs.declared.event.Event.{Event}
+use Rattle.session_phases.specs.Causes.{EndDecided, HasOutcome}
 use Rattle.session_phases.specs.Told.{Comes, after_events, told_by}
 use Rattle.session_phases.specs.Rounds.{polls, presents}
-use Rattle.session_phases.specs.Stands.{AtRound, AtCommand, AtClose, Does, Rolls, Finds, EndsSo, RoundTurned, RoundStands, WishStands, Turned}
+use Rattle.session_phases.specs.Stands.{AtCommand, AtClose, Does, Rolls, EndsSo, RoundTurned, RoundStands, WishStands, Turned}
 use Rattle.session_phases.specs.Wishes.{Before, Looks, Serves, Wished, next_start, wished}
-use Rattle.session_phases.specs.declared.steps.Purpose as purpose_of
-use Rattle.session_phases.specs.declared.steps.Purpose.TheVariants as purposes
-use Rattle.session_phases.specs.declared.steps.Wish as wish
-use Rattle.session_phases.specs.declared.steps.Wish.TheVariants as wishes
-use Rattle.session_phases.specs.declared.steps.Step.TheVariants as steps
-use Rattle.session_phases.specs.declared.steps.Onward as onward
-use Rattle.session_phases.specs.declared.steps.Onward.TheVariants as onwards
+use Rattle.session_phases.specs.Plain as plain
 use Rattle.session_phases.proofs.Coming.{now, hears_close, same_rest}
 
 -- A command is begun over a link.
@@ -87,9 +79,9 @@ over_events talk st e is = ap (λ (d : Doing). events_by talk st.results (ending
 
 -- The talk is over, and its end is noted.
 pub over_so : (talk : Talk) (results : List Result) (before old new : List Said) (link : Option OpenLink) (e : Ending) (end : ends_declared.End)
-    → said_of_end end ≡ End e → new ≡ old ++ said_of_end end ∷ [] → Comes talk results (before ++ old) (Over e)
+    → said_of_end end ≡ End e → EndDecided end (before ++ old) → new ≡ old ++ said_of_end end ∷ [] → Comes talk results (before ++ old) (Over e)
     → EndsSo end talk (standing talk results link) (before ++ new)
-over_so talk results before old new link e end is told comes =
+over_so talk results before old new link e end is decided told comes =
     let so : so_far talk results ≡ after_events (before ++ old) (so_far (Over e) []) = now talk results (before ++ old) (Over e) comes in
     let stopped : (standing talk results link).doing ≡ Stopped Whole = sym (doing_now talk results (before ++ old) link (Over e) Nothing refl comes) in
     let all : before ++ new ≡ (before ++ old) ++ said_of_end end ∷ [] = ap (λ (es : List Said). before ++ es) told ∙ sym (append_assoc before old (said_of_end end ∷ [])) in
@@ -100,6 +92,7 @@ over_so talk results before old new link e end is told comes =
           ∙ ap (λ (x : Said). (before ++ old) ++ x ∷ []) (sym is) ∙ sym all;
       before = before ++ old;
       last = all;
+      decided = decided;
     }
 
 none_more : (collided : Bool) (next : Activated → Talk) → talks.rounds OneCardOnly 0 collided next ≡ Over NoCard
@@ -121,10 +114,10 @@ one_more left fewer collided next is = subst (λ (n : ℕ). talks.rounds OneCard
 -- A card was found.
 pub finds : (talk : Talk) (results : List Result) (said : List Said) (fsdi : ℕ) (card : Activated) (e0 e1 : Held) (command : List ℕ) (ask : Asked) (next : List ℕ → Talk)
     → command ≡ select ppse_name → e0.set ≡ setting_of fsdi card
-    → Does (Some e1) (wishes.Command command purposes.Directory) (doing_by (Commands command) (Some (record { set = e0.set; reader = opened })))
+    → Does (Some e1) (plain.Command command plain.Directory) (doing_by (Commands command) (Some (record { set = e0.set; reader = opened })))
     → asked_by fsdi (doing_by (Commands command) (Some (record { set = e0.set; reader = opened }))) ≡ Some ask
     → Comes talk results said (Command (select ppse_name) next)
-    → RoundTurned fsdi (Some e1) (onwards.Ask ask (steps.Waiting (wishes.Command command purposes.Directory))) talk (standing talk results (Some (link_to fsdi card))) said next
+    → RoundTurned fsdi (Some e1) (plain.Ask ask (plain.Waiting (plain.Command command plain.Directory))) talk (standing talk results (Some (link_to fsdi card))) said next
 finds talk results said fsdi card e0 e1 command ask next is set does asks comes =
     let same : doing_by (Commands command) (Some (record { set = e0.set; reader = opened })) ≡ (standing talk results (Some (link_to fsdi card))).doing =
     ap (λ (c : List ℕ). doing_by (Commands c) (Some (record { set = e0.set; reader = opened }))) is
@@ -132,7 +125,7 @@ finds talk results said fsdi card e0 e1 command ask next is set does asks comes 
     ∙ doing_now talk results said (Some (link_to fsdi card)) (Command (select ppse_name) next) (Commands (select ppse_name)) refl comes in (
       record {
         does = subst (λ (d : Doing). AtCommand e1 d) same does;
-        first = ap (λ (c : List ℕ). let w : wish.Wish = wishes.Command c purposes.Directory in w) is;
+        first = ap (λ (c : List ℕ). let w : plain.Wish = plain.Command c plain.Directory in w) is;
         comes = comes;
       },
       ap (λ (d : Doing). asked_by fsdi d) (sym same) ∙ asks,
@@ -149,25 +142,25 @@ module _ {S : Type 0} (k : KernelSteps S) (ones : List Ready) (s : S) where
   starting zero = refl
   starting (suc n) = refl
 
-  pub rolled : (objects : List Object) (fsdi : ℕ) (link : Option Held) (o : onward.Onward) (talk : Talk) (st : Standing) (said : List Said) (n : ℕ)
+  pub rolled : (objects : List Object) (fsdi : ℕ) (link : Option Held) (o : plain.Onward) (talk : Talk) (st : Standing) (said : List Said) (n : ℕ)
       → k.restarts s ≤ n → RoundTurned fsdi link o talk st said (after_ppse n) → Turned k ones s objects fsdi link o talk st said
-  rolled objects fsdi link (onwards.Ask ask (steps.Polling round)) talk st said n le h = (
+  rolled objects fsdi link (plain.Ask ask (plain.Polling round)) talk st said n le h = (
     record {
       round = h.0.round;
       goes = record { n = n; restarts = le; rest = polls round.left round.collided (presents (after_ppse n)); rest_is = refl; comes = h.0.comes };
     },
     h.1,
   )
-  rolled objects fsdi link (onwards.Ask ask (steps.Waiting w)) talk st said n le h = (
+  rolled objects fsdi link (plain.Ask ask (plain.Waiting w)) talk st said n le h = (
     record {
       does = h.0.does;
-      goes = subst (λ (w : wish.Wish). Wished k ones s objects talk st.results said w) (sym h.0.first)
+      goes = subst (λ (w : plain.Wish). Wished k ones s objects talk st.results said w) (sym h.0.first)
           (let b : Before k ones (λ n. k.restarts s ≤ n) (Looks k ones s (select ppse_name)) talk st.results said =
           record { n = n; restarts = le; rest = Command (select ppse_name) (after_ppse n); rest_is = (refl, refl); comes = h.0.comes } in b);
     },
     h.1,
   )
-  rolled objects fsdi link (onwards.Ended end) talk st said n le h = h
+  rolled objects fsdi link (plain.Ended end) talk st said n le h = h
 
   module _ (objects : List Object) (talk : Talk) (results : List Result) (said : List Said) where
     waits_for : (rest : Talk) (w : Wish) → so_far rest [] ≡ talks.waits w → Comes talk results said rest → so_far talk results ≡ record { events = said; wish = w }
@@ -176,20 +169,20 @@ module _ {S : Type 0} (k : KernelSteps S) (ones : List Ready) (s : S) where
         ∙ ap (λ (es : List Said). let t : talks.SoFar = record { events = es; wish = w } in t) (append-nil said)
 
     -- What is said and wished now.
-    pub wished_now : (w : wish.Wish) → Wished k ones s objects talk results said w → so_far talk results ≡ record { events = said; wish = wished w }
-    wished_now (wishes.Command command purposes.Directory) h =
+    pub wished_now : (w : plain.Wish) → Wished k ones s objects talk results said w → so_far talk results ≡ record { events = said; wish = wished w }
+    wished_now (plain.Command command plain.Directory) h =
         waits_for h.rest (Commands command) (ap (λ (t : Talk). so_far t []) h.rest_is.1 ∙ ap (λ (c : List ℕ). talks.waits (Commands c)) (sym h.rest_is.0)) h.comes
-    wished_now (wishes.Command command (purposes.Final given rest)) h =
+    wished_now (plain.Command command (plain.Final given rest)) h =
         waits_for h.rest (Commands command) (ap (λ (t : Talk). so_far t []) h.rest_is.3 ∙ ap (λ (c : List ℕ). talks.waits (Commands c)) (sym h.rest_is.1)) h.comes
-    wished_now (wishes.Command command (purposes.Kernel rest)) h =
+    wished_now (plain.Command command (plain.Kernel rest)) h =
         waits_for h.rest (Commands command) (ap (λ (t : Talk). so_far t []) h.rest_is.2) h.comes
-    wished_now (wishes.Close true) h = waits_for h.rest Closes (ap (λ (t : Talk). so_far t []) h.rest_is) h.comes
-    wished_now (wishes.Close false) h = waits_for h.rest Closes (ap (λ (t : Talk). so_far t []) h.rest_is) h.comes
+    wished_now (plain.Close true) h = waits_for h.0.rest Closes (ap (λ (t : Talk). so_far t []) h.0.rest_is) h.0.comes
+    wished_now (plain.Close false) h = waits_for h.0.rest Closes (ap (λ (t : Talk). so_far t []) h.0.rest_is) h.0.comes
 
     -- A block of the command goes on.
-    pub asks_more : (turn : Turn) (e0 e1 : Held) (heard : Hearing) (fsdi : ℕ) (command : List ℕ) (purpose : purpose_of.Purpose) (ask : Asked)
+    pub asks_more : (turn : Turn) (e0 e1 : Held) (heard : Hearing) (fsdi : ℕ) (command : List ℕ) (purpose : plain.Purpose) (ask : Asked)
         → Says (nexts.Ask ask) e1.set heard turn → StandsAt e1 turn → e1.set ≡ e0.set → Serves k ones s objects talk results said command purpose
-        → Turned k ones s objects fsdi (Some e1) (onwards.Ask ask (steps.Waiting (wishes.Command command purpose))) talk (after_turn talk results e0.set turn) said
+        → Turned k ones s objects fsdi (Some e1) (plain.Ask ask (plain.Waiting (plain.Command command purpose))) talk (after_turn talk results e0.set turn) said
     asks_more (Asks r) e0 e1 heard fsdi command purpose ask says stands same served = (
       record {
         does = record { reader = r; asking = stands; does = ap (λ (set : LinkSetting). Carries (record { set = set; reader = r })) (sym same) };
@@ -202,7 +195,7 @@ module _ {S : Type 0} (k : KernelSteps S) (ones : List Ready) (s : S) where
     asks_more (Breaks r) e0 e1 heard fsdi command purpose ask says stands same served = absurd says
 
     -- The link has failed.
-    pub fails : (turn : Turn) (e0 e1 : Held) (heard : Hearing) (failure : LinkEnd) (w : wish.Wish) (new : List Said)
+    pub fails : (turn : Turn) (e0 e1 : Held) (heard : Hearing) (failure : LinkEnd) (w : plain.Wish) (new : List Said)
         → Says (nexts.Failed failure) e1.set heard turn → Wished k ones s objects talk results said w → new ≡ said ++ said_of_end (end_of_failure failure) ∷ []
         → EndsSo (end_of_failure failure) talk (after_turn talk results e0.set turn) new
     fails (Spends r) e0 e1 heard (failures.Spent bad) w new says h told = record {
@@ -211,6 +204,7 @@ module _ {S : Type 0} (k : KernelSteps S) (ones : List Ready) (s : S) where
       said_is = ap (λ (s : talks.SoFar). s.events ++ EndLink ∷ []) (wished_now w h) ∙ sym told;
       before = said;
       last = told;
+      decided = tt;
     }
     fails (Breaks r) e0 e1 heard (failures.Breach b) w new says h told = record {
       ending = AtBreach;
@@ -218,6 +212,7 @@ module _ {S : Type 0} (k : KernelSteps S) (ones : List Ready) (s : S) where
       said_is = ap (λ (s : talks.SoFar). s.events ++ EndBreach ∷ []) (wished_now w h) ∙ sym told;
       before = said;
       last = told;
+      decided = tt;
     }
     fails (Asks r) e0 e1 heard (failures.Spent bad) w new says h told = absurd says
     fails (Asks r) e0 e1 heard (failures.Breach b) w new says h told = absurd says
@@ -231,14 +226,14 @@ module _ {S : Type 0} (k : KernelSteps S) (ones : List Ready) (s : S) where
     fails (Breaks r) e0 e1 heard failures.Device w new says h told = absurd says
 
   -- The response has come, and what is wished after it is begun.
-  pub gives : (objects : List Object) (talk : Talk) (results : List Result) (said : List Said) (turn : Turn) (e0 e1 e2 : Held) (heard : Hearing) (fsdi : ℕ) (response : List ℕ) (w : wish.Wish) (ask : Asked)
+  pub gives : (objects : List Object) (talk : Talk) (results : List Result) (said : List Said) (turn : Turn) (e0 e1 e2 : Held) (heard : Hearing) (fsdi : ℕ) (response : List ℕ) (w : plain.Wish) (ask : Asked)
       → Says (nexts.Done response) e1.set heard turn → StandsAt e1 turn → e1.set ≡ e0.set
       → Wished k ones s objects talk (results ++ Response response ∷ []) said w
       → ((reader : Reader) → Rests e1 reader → Does (Some e2) w (doing_by (wished w) (Some (record { set = e1.set; reader = reader }))))
       → ((fsdi : ℕ) (reader : Reader) → Rests e1 reader → asked_by fsdi (doing_by (wished w) (Some (record { set = e1.set; reader = reader }))) ≡ Some ask)
-      → Turned k ones s objects fsdi (Some e2) (onwards.Ask ask (steps.Waiting w)) talk (after_turn talk results e0.set turn) said
+      → Turned k ones s objects fsdi (Some e2) (plain.Ask ask (plain.Waiting w)) talk (after_turn talk results e0.set turn) said
   gives objects talk results said (Gives given r) e0 e1 e2 heard fsdi response w ask says stands same h does asks =
-      let Goal : List ℕ → Type 0 = λ given. Turned k ones s objects fsdi (Some e2) (onwards.Ask ask (steps.Waiting w)) talk (standing talk (results ++ Response given ∷ []) (Some (record { set = e0.set; reader = r }))) said in
+      let Goal : List ℕ → Type 0 = λ given. Turned k ones s objects fsdi (Some e2) (plain.Ask ask (plain.Waiting w)) talk (standing talk (results ++ Response given ∷ []) (Some (record { set = e0.set; reader = r }))) said in
       let here : doing_by (wished w) (Some (record { set = e1.set; reader = r })) ≡ (standing talk (results ++ Response response ∷ []) (Some (record { set = e0.set; reader = r }))).doing =
       ap (λ (set : LinkSetting). doing_by (wished w) (Some (record { set = set; reader = r }))) same
       ∙ ap (λ (x : talks.SoFar). doing_by x.wish (Some (record { set = e0.set; reader = r }))) (sym (wished_now objects talk (results ++ Response response ∷ []) said w h)) in
@@ -283,7 +278,7 @@ none_told (e ∷ es) is = absurd (let g : ⊥ = cc in g)
 
 module _ {S : Type 0} (k : KernelSteps S) (ones : List Ready) (s : S) where
   -- The link that is closed.
-  pub closes_at : (link : Option Held) (again : Bool) (d : Doing) → Does link (wishes.Close again) d → (l : OpenLink) × (d ≡ Closing l)
+  pub closes_at : (link : Option Held) (again : Bool) (d : Doing) → Does link (plain.Close again) d → (l : OpenLink) × (d ≡ Closing l)
   closes_at None again d h = absurd h
   closes_at (Some e) again d h = (record { set = e.set; reader = h.reader }, h.does)
 
@@ -291,32 +286,32 @@ module _ {S : Type 0} (k : KernelSteps S) (ones : List Ready) (s : S) where
   pub closed_stands : (fsdi : ℕ) (talk : Talk) (heard : Hearing) (st : Standing) (l : OpenLink) → st.doing ≡ Closing l → after_hearing fsdi talk heard st ≡ standing talk (st.results ++ Closed ∷ []) None
   closed_stands fsdi talk heard st l is = ap (λ (d : Doing). hears_by fsdi talk st.results heard d) is
 
-  module _ (before after : List Object) (fsdi : ℕ) (old new : Option Held) (o : onward.Onward) (talk : Talk) (st : Standing) (heard : Hearing) where
+  module _ (before after : List Object) (fsdi : ℕ) (old new : Option Held) (o : plain.Onward) (talk : Talk) (st : Standing) (heard : Hearing) where
     -- A new Start B follows.
-    pub starts_again : (said : List Said) → WishStands k ones s before old (wishes.Close true) talk st said
+    pub starts_again : (said : List Said) → WishStands k ones s before old (plain.Close true) talk st said
         → ((next : List ℕ → Talk) → Comes talk (st.results ++ Closed ∷ []) said (polls 63 false (presents next))
         → RoundTurned fsdi new o talk (standing talk (st.results ++ Closed ∷ []) None) said next)
         → Turned k ones s after fsdi new o talk (after_hearing fsdi talk heard st) said
     starts_again said h turned =
         let at : (l : OpenLink) × (st.doing ≡ Closing l) = closes_at old true st.doing h.does in
-        subst (λ (st : Standing). Turned k ones s after fsdi new o talk st said) (sym (closed_stands fsdi talk heard st at.0 at.1)) (more h.goes.n h.goes.restarts h.goes.rest_is)
+        subst (λ (st : Standing). Turned k ones s after fsdi new o talk st said) (sym (closed_stands fsdi talk heard st at.0 at.1)) (more h.goes.0.n h.goes.0.restarts h.goes.0.rest_is)
       where
-        more : (n : ℕ) → k.restarts s < n → h.goes.rest ≡ Close (next_start k ones n s) → Turned k ones s after fsdi new o talk (standing talk (st.results ++ Closed ∷ []) None) said
+        more : (n : ℕ) → k.restarts s < n → h.goes.0.rest ≡ Close (next_start k ones n s) → Turned k ones s after fsdi new o talk (standing talk (st.results ++ Closed ∷ []) None) said
         more zero lt is = absurd (omega (arith, lt))
         more (suc n) lt is =
-            let closed : Comes talk (st.results ++ Closed ∷ []) said (starts k ones n s) = hears_close talk st.results said (starts k ones n s) (same_rest talk st.results said h.goes.rest (Close (starts k ones n s)) is h.goes.comes) in
+            let closed : Comes talk (st.results ++ Closed ∷ []) said (starts k ones n s) = hears_close talk st.results said (starts k ones n s) (same_rest talk st.results said h.goes.0.rest (Close (starts k ones n s)) is h.goes.0.comes) in
             rolled k ones s after fsdi new o talk (standing talk (st.results ++ Closed ∷ []) None) said n (omega (arith, lt))
             (turned (after_ppse k ones s n) (same_rest talk (st.results ++ Closed ∷ []) said (starts k ones n s) (polls 63 false (presented k (next_start k ones n) ones s)) (starting k ones s n) closed))
 
     -- The end follows.
-    pub ends_here : (said told : List Said) → WishStands k ones s before old (wishes.Close false) talk st said → o ≡ onwards.Ended ending.Done
-        → (Comes talk (st.results ++ Closed ∷ []) said (Over Finished) → EndsSo ending.Done talk (standing talk (st.results ++ Closed ∷ []) None) told)
+    pub ends_here : (said told : List Said) → WishStands k ones s before old (plain.Close false) talk st said → o ≡ plain.Ended ending.Done
+        → (HasOutcome said → Comes talk (st.results ++ Closed ∷ []) said (Over Finished) → EndsSo ending.Done talk (standing talk (st.results ++ Closed ∷ []) None) told)
         → Turned k ones s after fsdi new o talk (after_hearing fsdi talk heard st) told
     ends_here said told h word ended =
         let at : (l : OpenLink) × (st.doing ≡ Closing l) = closes_at old false st.doing h.does in
         subst (λ (st : Standing). Turned k ones s after fsdi new o talk st told) (sym (closed_stands fsdi talk heard st at.0 at.1))
-        (subst (λ (o : onward.Onward). Turned k ones s after fsdi new o talk (standing talk (st.results ++ Closed ∷ []) None) told) (sym word)
-        (ended (hears_close talk st.results said (Over Finished) (same_rest talk st.results said h.goes.rest ends h.goes.rest_is h.goes.comes))))
+        (subst (λ (o : plain.Onward). Turned k ones s after fsdi new o talk (standing talk (st.results ++ Closed ∷ []) None) told) (sym word)
+        (ended h.goes.1 (hears_close talk st.results said (Over Finished) (same_rest talk st.results said h.goes.0.rest ends h.goes.0.rest_is h.goes.0.comes))))
 
     -- A round goes on or ends.
     pub rounds_on : (said told : List Said) (poll : PollState) (left : ℕ) (collided : Bool) → RoundStands k ones s fsdi poll left collided talk st said

@@ -5,7 +5,7 @@ use Rattle.std.specs.Option.{option_map}
 use Rattle.ep_base.specs.declared.outcome.OutcomeKind.{OutcomeKind}
 use Rattle.ep_base.specs.declared.outcome.OutcomeKind.TheVariants as kinds
 use Rattle.ep_base.specs.declared.outcome.Message.TheVariants.{TryAnotherCard}
-use Rattle.ep_base.specs.Apdu.{select, ppse_name, is_9000}
+use Rattle.ep_base.specs.Apdu.{is_9000}
 use Rattle.ep_base.specs.Arena.{Object}
 use Rattle.ep_base.specs.Candidates.{Candidate, candidates, final_command}
 use Rattle.ep_base.specs.Directory.{Entry, directory, entries_held}
@@ -13,16 +13,17 @@ use Rattle.ep_base.specs.Kernel.{KernelSteps, Move, Send, Done}
 use Rattle.ep_base.specs.PreProcessing.{Ready}
 use Rattle.ep_base.specs.Said.{Said, Given, Verdict, Tells, Apdu, Notice, Outcome, Candidates, Activate}
 use Rattle.ep_base.specs.Talk.{Talk, Result, Response, Say, Command, Close}
-use Rattle.ep_base.specs.EntryPoint.{ends, starts, start_c, selects, activates, after_verdict, after_kind, after_move, kernel_runs, given_to}
+use Rattle.ep_base.specs.EntryPoint.{ends, selects, activates, after_verdict, after_kind, after_move, kernel_runs, given_to}
 use Rattle.kernel_port.specs.Kernels.{CountsFall, RestartsFall}
 use Rattle.select_rules.specs.Left.{StandsFor}
 use Rattle.select_rules.specs.declared.pair.Pair.{Pair}
-use Rattle.session_phases.specs.Offers.{offered, with_fci}
+use Rattle.session_phases.specs.Offers.{offered}
 use Rattle.session_phases.specs.Told.{Comes, outcome_said}
-use Rattle.session_phases.specs.Wishes.{Lasts, RestartsLeft, RestartsAt, next_start, Within, Before, Selects, Decides, Activates, Moves, Hears, Chosen, Offers, Sends, Lists, Looks, Closes, Serves, Wished}
-use Rattle.session_phases.specs.declared.steps.Wish.{Wish}
-use Rattle.session_phases.specs.declared.steps.Wish.TheVariants as wishes
-use Rattle.session_phases.specs.declared.steps.Purpose.TheVariants as purposes
+use Rattle.session_phases.specs.Wishes.{Lasts, RestartsLeft, next_start, Within, Before, Selects, Decides, Activates, Moves, Hears, Chosen, Offers, Sends, Lists, Looks, Wished}
+use Rattle.session_phases.specs.Plain as plain
+use Rattle.session_phases.specs.Plain.{Wish}
+use Rattle.session_phases.specs.Causes.{HasOutcome}
+use Rattle.session_phases.proofs.Failing.{outcome_before}
 use Rattle.session_phases.proofs.Coming.{notes, notes_response, notes_outcome, same_rest}
 
 -- What is offered is the first candidate's, and nothing is offered only where none is left.
@@ -63,18 +64,20 @@ module _ {S : Type 0} (k : KernelSteps S) (ones : List Ready) (objects : List Ob
       → ((count : ℕ) (left : List Candidate) → StandsFor ones (entries_held count objects) pairs left → None ≡ option_map offered (slice_get left 0))
       → middle ≡ old ++ Tells (Outcome kinds.EndApplication) ∷ [] → new ≡ middle ++ Tells (Notice TryAnotherCard) ∷ []
       → Within k ones objects pairs (λ n. k.restarts s ≤ n) (Selects k ones s) talk results (before ++ old)
-      → Wished k ones s objects talk results (before ++ new) (wishes.Close false)
+      → Wished k ones s objects talk results (before ++ new) (plain.Close false)
   offers_none pairs middle new offer e f h =
       let empty : h.left ≡ [] = none_left h.left (offer h.count h.left h.stands) in
       let here : Comes talk results (before ++ old) (selects k (next_start k ones h.n) [] s) =
-      same_rest talk results (before ++ old) h.rest (selects k (next_start k ones h.n) [] s) (h.rest_is ∙ ap (λ (left : List Candidate). selects k (next_start k ones h.n) left s) empty) h.comes in
-      record {
-        n = h.n;
-        restarts = h.restarts;
-        rest = ends;
-        rest_is = refl;
-        comes = notes talk results before middle (Notice TryAnotherCard) ends new f (notes talk results before old (Outcome kinds.EndApplication) (Say (Notice TryAnotherCard) ends) middle e here);
-      }
+      same_rest talk results (before ++ old) h.rest (selects k (next_start k ones h.n) [] s) (h.rest_is ∙ ap (λ (left : List Candidate). selects k (next_start k ones h.n) left s) empty) h.comes in (
+        record {
+          n = h.n;
+          restarts = h.restarts;
+          rest = ends;
+          rest_is = refl;
+          comes = notes talk results before middle (Notice TryAnotherCard) ends new f (notes talk results before old (Outcome kinds.EndApplication) (Say (Notice TryAnotherCard) ends) middle e here);
+        },
+        outcome_before before old middle new kinds.EndApplication (Tells (Notice TryAnotherCard)) e f,
+      )
 
   -- An outcome is noted, and what follows its kind is the rest.
   pub decided : (pairs : List Pair) (v : Verdict) (new : List Said) → new ≡ old ++ outcome_said v
@@ -316,10 +319,10 @@ module _ {S : Type 0} (k : KernelSteps S) (ones : List Ready) (objects : List Ob
 
   -- A new Start B is wished.
   pub wishes_again : (pairs : List Pair) → Within k ones objects pairs (λ n. k.restarts s < n) (λ again left t. t ≡ Close (again s)) talk results (before ++ old)
-      → Wished k ones s objects talk results (before ++ old) (wishes.Close true)
-  wishes_again pairs h = record { n = h.n; restarts = h.restarts; rest = h.rest; rest_is = h.rest_is; comes = h.comes }
+      → Wished k ones s objects talk results (before ++ old) (plain.Close true)
+  wishes_again pairs h = (record { n = h.n; restarts = h.restarts; rest = h.rest; rest_is = h.rest_is; comes = h.comes }, tt)
 
   -- The end is wished.
   pub wishes_end : (pairs : List Pair) → Within k ones objects pairs (λ n. k.restarts s ≤ n) (λ again left t. t ≡ ends) talk results (before ++ old)
-      → Wished k ones s objects talk results (before ++ old) (wishes.Close false)
-  wishes_end pairs h = record { n = h.n; restarts = h.restarts; rest = h.rest; rest_is = h.rest_is; comes = h.comes }
+      → HasOutcome (before ++ old) → Wished k ones s objects talk results (before ++ old) (plain.Close false)
+  wishes_end pairs h outcome = (record { n = h.n; restarts = h.restarts; rest = h.rest; rest_is = h.rest_is; comes = h.comes }, outcome)

@@ -1,6 +1,8 @@
+pub mod Causes
 pub mod Ends
 pub mod Offers
 pub mod Opening
+pub mod Plain
 pub mod Room
 pub mod Rounds
 pub mod Shown

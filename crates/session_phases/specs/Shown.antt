@@ -1,17 +1,19 @@
 -- What is shown of a transaction's last Start B and of its last link.
-use Rattle.std.specs.Prelude.{◌≡◌, ℕ, ◌+◌, Bool, true, false, List, [], ◌∷◌, ◌++◌, length, Option, Some, None, if◌then◌else◌}
+use Rattle.std.specs.Prelude.{◌≡◌, ℕ, ◌+◌, Bool, true, false, All, List, [], ◌∷◌, ◌++◌, length, Option, Some, None, if◌then◌else◌}
 use Rattle.ep_base.specs.Carry.{turn_on}
 use Rattle.ep_base.specs.Hearing.{Hearing, RoundEnd, Empty, Collision, Unsupported, Broken, Found, Turn, Goes, Ends}
 use Rattle.ep_base.specs.LinkEvents.{kept_after, exchange_of}
 use Rattle.ep_base.specs.LinkFrames.{Kept}
 use Rattle.ep_base.specs.Round.{Stage, round_hears}
+use Rattle.ep_base.specs.Radio.{OpenLink}
 use Rattle.ep_base.specs.Talk.{Result, Round, Response, Closed}
 use Rattle.block_reader.specs.Stands.{Held}
 use Rattle.law_lane.specs.Standing.{Doing, Rounds, Carries, Closing, Stopped, Astray, Standing}
-use Rattle.session_phases.specs.declared.steps.Step.{Step}
-use Rattle.session_phases.specs.declared.steps.Step.TheVariants as steps
-use Rattle.session_phases.specs.declared.steps.Onward.{Onward}
-use Rattle.session_phases.specs.declared.steps.Onward.TheVariants as onward
+use Rattle.session_event.specs.declared.event.End.{End}
+use Rattle.session_event.specs.declared.event.End.TheVariants as ending
+use Rattle.session_phases.specs.Causes.{FindsNone, IsNoCard, FailsOver, FailedIn}
+use Rattle.session_phases.specs.Plain as plain
+use Rattle.session_phases.specs.Plain.{Step, Onward}
 
 -- How the rounds of a Start B ended, and whether its presentation was closed since (this project's own).
 pub record Rounded : Type 0 where
@@ -49,33 +51,106 @@ ends_at Astray r = r.ends
 abbrev pub rounds_of : Standing → List RoundEnd
 rounds_of st = ends_at st.doing (rounded st.results)
 
--- As many rounds may still come as were not made, of 64 (this project's profile).
-abbrev pub Fits : Step → List RoundEnd → Type 0
-Fits (steps.Polling round) ends = length ends + round.left ≡ 63
-Fits (steps.Waiting wish) ends = Unit {0}
+-- As many rounds may still come after this one as were not made, of 64, and none of those that ended found a card (this project's profile).
+pub record FitsRound (ends : List RoundEnd) (left : ℕ) : Type 0 where
+  pub count : length ends + left ≡ 63
+  pub none : All FindsNone ends
 
--- The same after an exchange, where another one comes (this project's own).
+-- Where a round is made, the rounds fit (this project's profile).
+abbrev pub Fits : Step → List RoundEnd → Type 0
+Fits (plain.Polling round) ends = FitsRound ends round.left
+Fits (plain.Waiting wish) ends = Unit {0}
+
+-- At an end without a card all rounds have ended without one (this project's profile).
+abbrev pub EndFits : End → List RoundEnd → Type 0
+EndFits ending.Done ends = Unit {0}
+EndFits ending.Link ends = Unit {0}
+EndFits ending.NoCard ends = IsNoCard ends
+EndFits ending.Breach ends = Unit {0}
+
+-- The same after an exchange (this project's own).
 abbrev pub FitsThen : Onward → List RoundEnd → Type 0
-FitsThen (onward.Ask ask step) ends = Fits step ends
-FitsThen (onward.Ended end) ends = Unit {0}
+FitsThen (plain.Ask ask step) ends = Fits step ends
+FitsThen (plain.Ended end) ends = EndFits end ends
+
+-- A Start B ends only without a card, and after its last round (this project's profile).
+abbrev pub EndLeft : End → ℕ → Type 0
+EndLeft ending.Done left = ⊥
+EndLeft ending.Link left = ⊥
+EndLeft ending.NoCard left = left ≡ 0
+EndLeft ending.Breach left = ⊥
 
 -- So many rounds are left before this one (this project's own).
 abbrev pub LeftThen : Onward → ℕ → Type 0
-LeftThen (onward.Ask ask (steps.Polling round)) left = round.left + 1 ≡ left
-LeftThen (onward.Ask ask (steps.Waiting wish)) left = Unit {0}
-LeftThen (onward.Ended end) left = Unit {0}
+LeftThen (plain.Ask ask (plain.Polling round)) left = round.left + 1 ≡ left
+LeftThen (plain.Ask ask (plain.Waiting wish)) left = Unit {0}
+LeftThen (plain.Ended end) left = EndLeft end left
+
+-- Where rounds go on after this end of one, or none is left, it found no card (this project's own).
+abbrev pub NoneThen : Onward → RoundEnd → Type 0
+NoneThen (plain.Ask ask (plain.Polling round)) e = FindsNone e
+NoneThen (plain.Ask ask (plain.Waiting wish)) e = Unit {0}
+NoneThen (plain.Ended end) e = FindsNone e
 
 -- A round comes next, with so many after it (this project's own).
 abbrev pub PollsThen : Onward → ℕ → Type 0
-PollsThen (onward.Ask ask (steps.Polling round)) left = round.left ≡ left
-PollsThen (onward.Ask ask (steps.Waiting wish)) left = ⊥
-PollsThen (onward.Ended end) left = ⊥
+PollsThen (plain.Ask ask (plain.Polling round)) left = round.left ≡ left
+PollsThen (plain.Ask ask (plain.Waiting wish)) left = ⊥
+PollsThen (plain.Ended end) left = ⊥
 
--- No round comes next (this project's own).
+-- The end isn't one without a card (this project's own).
+abbrev pub IsCarded : End → Type 0
+IsCarded ending.Done = Unit {0}
+IsCarded ending.Link = Unit {0}
+IsCarded ending.NoCard = ⊥
+IsCarded ending.Breach = Unit {0}
+
+-- No round comes next, and none was (this project's own).
 abbrev pub NoRoundThen : Onward → Type 0
-NoRoundThen (onward.Ask ask (steps.Polling round)) = ⊥
-NoRoundThen (onward.Ask ask (steps.Waiting wish)) = Unit {0}
-NoRoundThen (onward.Ended end) = Unit {0}
+NoRoundThen (plain.Ask ask (plain.Polling round)) = ⊥
+NoRoundThen (plain.Ask ask (plain.Waiting wish)) = Unit {0}
+NoRoundThen (plain.Ended end) = IsCarded end
+
+-- The end isn't that of a failed link (this project's own).
+abbrev pub IsUnfailed : End → Type 0
+IsUnfailed ending.Done = Unit {0}
+IsUnfailed ending.Link = ⊥
+IsUnfailed ending.NoCard = Unit {0}
+IsUnfailed ending.Breach = ⊥
+
+-- No link has failed (this project's own).
+abbrev pub NoFailureThen : Onward → Type 0
+NoFailureThen (plain.Ask ask step) = Unit {0}
+NoFailureThen (plain.Ended end) = IsUnfailed end
+
+-- Nothing but what Entry Point decides ends it (this project's own).
+abbrev pub IsDone : End → Type 0
+IsDone ending.Done = Unit {0}
+IsDone ending.Link = ⊥
+IsDone ending.NoCard = ⊥
+IsDone ending.Breach = ⊥
+
+-- The same, where it has ended (this project's own).
+abbrev pub DoneThen : Onward → Type 0
+DoneThen (plain.Ask ask step) = Unit {0}
+DoneThen (plain.Ended end) = IsDone end
+
+-- Where the open command's link has failed, what its reader's end keeps shows it (this project's profile).
+abbrev pub FailsThen : Onward → Hearing → OpenLink → Held → Type 0
+FailsThen (plain.Ask ask step) heard l e = Unit {0}
+FailsThen (plain.Ended end) heard l e = FailsOver end heard l e
+
+-- An end of a failed link shows it (this project's profile).
+abbrev pub EndFailed : End → Hearing → Doing → Option Held → Type 0
+EndFailed ending.Done heard doing link = Unit {0}
+EndFailed ending.Link heard doing link = FailedIn ending.Link heard doing link
+EndFailed ending.NoCard heard doing link = Unit {0}
+EndFailed ending.Breach heard doing link = FailedIn ending.Breach heard doing link
+
+-- The same after an exchange (this project's own).
+abbrev pub FailedThen : Onward → Hearing → Doing → Option Held → Type 0
+FailedThen (plain.Ask ask step) heard doing link = Unit {0}
+FailedThen (plain.Ended end) heard doing link = EndFailed end heard doing link
 
 -- The ends after one more turn of a round (this project's own).
 abbrev pub ends_after : Turn Stage → List RoundEnd → List RoundEnd

@@ -6,7 +6,7 @@ use Rattle.ep_base.specs.Kernel.{KernelSteps}
 use Rattle.ep_base.specs.PreProcessing.{Ready}
 use Rattle.ep_base.specs.ReaderEnd.{Reader}
 use Rattle.ep_base.specs.Said.{Said}
-use Rattle.ep_base.specs.Talk.{Talk, Result, Command}
+use Rattle.ep_base.specs.Talk.{Talk, Command}
 use Rattle.ep_base.specs.EntryPoint.{presented}
 use Rattle.ep_base.specs.TransportRun.{HearEnd}
 use Rattle.block_reader.specs.Stands.{Held, held, Asking}
@@ -16,16 +16,12 @@ use Rattle.law_lane.specs.Standing.{Doing, Rounds, Carries, Closing, Stopped, St
 use Rattle.poll_activate.specs.Poll.{PollState}
 use Rattle.session_event.specs.Event.{said_of_end}
 use Rattle.session_event.specs.declared.event.End.{End}
+use Rattle.session_phases.specs.Causes.{EndDecided}
 use Rattle.session_phases.specs.Told.{Comes}
 use Rattle.session_phases.specs.Rounds.{polls, presents}
 use Rattle.session_phases.specs.Wishes.{Before, Wished, serves_wish}
-use Rattle.session_phases.specs.declared.steps.Purpose.TheVariants as purposes
-use Rattle.session_phases.specs.declared.steps.Wish.{Wish}
-use Rattle.session_phases.specs.declared.steps.Wish.TheVariants as wishes
-use Rattle.session_phases.specs.declared.steps.Step.{Step}
-use Rattle.session_phases.specs.declared.steps.Step.TheVariants as steps
-use Rattle.session_phases.specs.declared.steps.Onward.{Onward}
-use Rattle.session_phases.specs.declared.steps.Onward.TheVariants as onward
+use Rattle.session_phases.specs.Plain as plain
+use Rattle.session_phases.specs.Plain.{Wish, Step, Onward}
 
 -- The reader's end of the last link, in plain data (this project's own).
 abbrev pub link_held : Option ReaderEnd → Option Held
@@ -39,18 +35,18 @@ is_asking (Some e) = links.is_open e
 
 -- Whether a wish is carried: a command is open over the last link, or that link is being closed (this project's own).
 abbrev pub carries : Option Held → Wish → Bool
-carries link (wishes.Command command purpose) = is_asking link
-carries link (wishes.Close again) = true
+carries link (plain.Command command purpose) = is_asking link
+carries link (plain.Close again) = true
 
 -- Whether a step can go on: a round that isn't over, or a wish that is carried and that the kernels serve (this project's own).
 abbrev pub can_go_on : Bool → Bool → Option Held → Step → Bool
-can_go_on is_open is_fresh link (steps.Polling round) = is_some round.poll.stage
-can_go_on is_open is_fresh link (steps.Waiting wish) = carries link wish && serves_wish is_open is_fresh wish
+can_go_on is_open is_fresh link (plain.Polling round) = is_some round.poll.stage
+can_go_on is_open is_fresh link (plain.Waiting wish) = carries link wish && serves_wish is_open is_fresh wish
 
 -- The same after an exchange, where another one comes (this project's own).
 abbrev pub goes_on : Bool → Bool → Option Held → Onward → Bool
-goes_on is_open is_fresh link (onward.Ask ask step) = can_go_on is_open is_fresh link step
-goes_on is_open is_fresh link (onward.Ended end) = true
+goes_on is_open is_fresh link (plain.Ask ask step) = can_go_on is_open is_fresh link step
+goes_on is_open is_fresh link (plain.Ended end) = true
 
 -- A poll round is at its stage (this project's own).
 pub record AtRound (fsdi : ℕ) (poll : PollState) (doing : Doing) : Type 0 where
@@ -70,21 +66,23 @@ pub record AtClose (e : Held) (doing : Doing) : Type 0 where
 
 -- What the next exchange is of, where it is of a wish (this project's own).
 abbrev pub DoesOver : Held → Wish → Doing → Type 0
-DoesOver e (wishes.Command command purpose) doing = AtCommand e doing
-DoesOver e (wishes.Close again) doing = AtClose e doing
+DoesOver e (plain.Command command purpose) doing = AtCommand e doing
+DoesOver e (plain.Close again) doing = AtClose e doing
 
 -- The same over the last link, if there is one (this project's own).
 abbrev pub Does : Option Held → Wish → Doing → Type 0
 Does None wish doing = ⊥
 Does (Some e) wish doing = DoesOver e wish doing
 
--- The transaction is over with these events, and its end's word is the last of them (this project's own).
+-- The transaction is over with these events, and its end's word is the last of them; where it was carried through, an outcome stands before that
+-- (this project's own).
 pub record EndsSo (end : End) (talk : Talk) (st : Standing) (said : List Said) : Type 0 where
   pub ending : HearEnd
   pub stopped : st.doing ≡ Stopped ending
   pub said_is : events_of talk st ≡ said
   pub before : List Said
   pub last : said ≡ before ++ said_of_end end ∷ []
+  pub decided : EndDecided end before
 
 -- A round is made, and after it the rest of this Start B (this project's own).
 pub record Rolls (fsdi : ℕ) (poll : PollState) (left : ℕ) (collided : Bool) (talk : Talk) (st : Standing) (said : List Said) (next : List ℕ → Talk) : Type 0 where
@@ -94,18 +92,18 @@ pub record Rolls (fsdi : ℕ) (poll : PollState) (left : ℕ) (collided : Bool) 
 -- A card was found, and its directory is looked up (this project's own).
 pub record Finds (link : Option Held) (wish : Wish) (talk : Talk) (st : Standing) (said : List Said) (next : List ℕ → Talk) : Type 0 where
   pub does : Does link wish st.doing
-  pub first : wish ≡ wishes.Command (select ppse_name) purposes.Directory
+  pub first : wish ≡ plain.Command (select ppse_name) plain.Directory
   pub comes : Comes talk st.results said (Command (select ppse_name) next)
 
 -- What a step of a Start B stands for (this project's own).
 abbrev pub StepRolls : ℕ → Option Held → Step → Talk → Standing → List Said → (List ℕ → Talk) → Type 0
-StepRolls fsdi link (steps.Polling round) talk st said next = Rolls fsdi round.poll round.left round.collided talk st said next
-StepRolls fsdi link (steps.Waiting wish) talk st said next = Finds link wish talk st said next
+StepRolls fsdi link (plain.Polling round) talk st said next = Rolls fsdi round.poll round.left round.collided talk st said next
+StepRolls fsdi link (plain.Waiting wish) talk st said next = Finds link wish talk st said next
 
 -- What follows an exchange of a Start B stands for this standing and these events (this project's own).
 abbrev pub RoundTurned : ℕ → Option Held → Onward → Talk → Standing → List Said → (List ℕ → Talk) → Type 0
-RoundTurned fsdi link (onward.Ask ask step) talk st said next = StepRolls fsdi link step talk st said next × (asked_by fsdi st.doing ≡ Some ask)
-RoundTurned fsdi link (onward.Ended end) talk st said next = EndsSo end talk st said
+RoundTurned fsdi link (plain.Ask ask step) talk st said next = StepRolls fsdi link step talk st said next × (asked_by fsdi st.doing ≡ Some ask)
+RoundTurned fsdi link (plain.Ended end) talk st said next = EndsSo end talk st said
 
 module _ {S : Type 0} (k : KernelSteps S) (ones : List Ready) (s : S) where
   -- A round of a Start B is made (EMV Book B).
@@ -124,10 +122,10 @@ module _ {S : Type 0} (k : KernelSteps S) (ones : List Ready) (s : S) where
 
   -- A step stands for this standing and these events (this project's own).
   abbrev pub StepStands : List Object → ℕ → Option Held → Step → Talk → Standing → List Said → Type 0
-  StepStands objects fsdi link (steps.Polling round) talk st said = RoundStands fsdi round.poll round.left round.collided talk st said
-  StepStands objects fsdi link (steps.Waiting wish) talk st said = WishStands objects link wish talk st said
+  StepStands objects fsdi link (plain.Polling round) talk st said = RoundStands fsdi round.poll round.left round.collided talk st said
+  StepStands objects fsdi link (plain.Waiting wish) talk st said = WishStands objects link wish talk st said
 
   -- What follows an exchange stands for this standing and these events (this project's own).
   abbrev pub Turned : List Object → ℕ → Option Held → Onward → Talk → Standing → List Said → Type 0
-  Turned objects fsdi link (onward.Ask ask step) talk st said = StepStands objects fsdi link step talk st said × (asked_by fsdi st.doing ≡ Some ask)
-  Turned objects fsdi link (onward.Ended end) talk st said = EndsSo end talk st said
+  Turned objects fsdi link (plain.Ask ask step) talk st said = StepStands objects fsdi link step talk st said × (asked_by fsdi st.doing ≡ Some ask)
+  Turned objects fsdi link (plain.Ended end) talk st said = EndsSo end talk st said

@@ -1,6 +1,5 @@
 -- How what a transaction wishes of a presented card stands for the rest of its talk.
-use Rattle.std.specs.Prelude.{◌≡◌, ℕ, zero, suc, ◌+◌, ◌<◌, ◌≤◌, Bool, true, false, not, ◌&&◌, List, [], ◌∷◌, ◌++◌, length, Some, None, if◌then◌else◌}
-use Rattle.std.specs.declared.option.Option.{Option}
+use Rattle.std.specs.Prelude.{◌≡◌, ℕ, zero, suc, ◌<◌, ◌≤◌, Bool, true, false, not, ◌&&◌, List, [], ◌∷◌, length, Some, if◌then◌else◌}
 use Rattle.ep_base.specs.Apdu.{select, ppse_name, is_9000}
 use Rattle.ep_base.specs.Arena.{Object}
 use Rattle.ep_base.specs.Candidates.{Candidate, candidates, final_command}
@@ -14,27 +13,26 @@ use Rattle.ep_base.specs.EntryPoint.{ends, starts, start_c, selects, activates, 
 use Rattle.kernel_port.specs.Kernels.{RestartsFall}
 use Rattle.select_rules.specs.Left.{StandsFor}
 use Rattle.select_rules.specs.declared.pair.Pair.{Pair}
+use Rattle.session_phases.specs.Causes.{HasOutcome}
 use Rattle.session_phases.specs.Told.{Comes}
-use Rattle.session_phases.specs.declared.steps.Purpose.{Purpose}
-use Rattle.session_phases.specs.declared.steps.Purpose.TheVariants as purposes
-use Rattle.session_phases.specs.declared.steps.Wish.{Wish}
-use Rattle.session_phases.specs.declared.steps.Wish.TheVariants as wishes
+use Rattle.session_phases.specs.Plain as plain
+use Rattle.session_phases.specs.Plain.{Purpose, Wish}
 
 -- What a wish is to the talk (this project's own).
 abbrev pub wished : Wish → talks.Wish
-wished (wishes.Command command purpose) = talks.Commands command
-wished (wishes.Close again) = talks.Closes
+wished (plain.Command command purpose) = talks.Commands command
+wished (plain.Close again) = talks.Closes
 
 -- Whether the kernels are as a purpose needs them: for a kernel's command one is open, and its first step is past (this project's own).
 abbrev pub serves : Bool → Bool → Purpose → Bool
-serves is_open is_fresh purposes.Directory = true
-serves is_open is_fresh (purposes.Final given rest) = true
-serves is_open is_fresh (purposes.Kernel rest) = is_open && not is_fresh
+serves is_open is_fresh plain.Directory = true
+serves is_open is_fresh (plain.Final given rest) = true
+serves is_open is_fresh (plain.Kernel rest) = is_open && not is_fresh
 
 -- The same for a wish (this project's own).
 abbrev pub serves_wish : Bool → Bool → Wish → Bool
-serves_wish is_open is_fresh (wishes.Command command purpose) = serves is_open is_fresh purpose
-serves_wish is_open is_fresh (wishes.Close again) = true
+serves_wish is_open is_fresh (plain.Command command purpose) = serves is_open is_fresh purpose
+serves_wish is_open is_fresh (plain.Close again) = true
 
 -- After the move of a kernel that has fewer than n commands left, so many are left (this project's own).
 abbrev pub Lasts : {S : Type 0} → KernelSteps S → ℕ → Move → S → Type 0
@@ -46,11 +44,16 @@ abbrev pub RestartsLeft : Move → ℕ → ℕ → Type 0
 RestartsLeft (Send command) old new = new ≤ old
 RestartsLeft (Done verdict) old new = RestartsFall verdict.kind old new
 
+-- Before the close at which a transaction ends, an outcome was said (EMV Book B).
+abbrev pub CloseDecided : Bool → List Said → Type 0
+CloseDecided true said = Unit {0}
+CloseDecided false said = HasOutcome said
+
 -- The restarts that a wish leaves, of n before: a new Start B takes one (this project's own).
 abbrev pub RestartsAt : Wish → ℕ → ℕ → Type 0
-RestartsAt (wishes.Command command purpose) old new = new ≤ old
-RestartsAt (wishes.Close true) old new = new < old
-RestartsAt (wishes.Close false) old new = new ≤ old
+RestartsAt (plain.Command command purpose) old new = new ≤ old
+RestartsAt (plain.Close true) old new = new < old
+RestartsAt (plain.Close false) old new = new ≤ old
 
 module _ {S : Type 0} (k : KernelSteps S) (ones : List Ready) where
   -- What follows a close where a new Start B is wished and so many may still come (this project's own).
@@ -134,11 +137,11 @@ module _ {S : Type 0} (k : KernelSteps S) (ones : List Ready) where
     module _ (objects : List Object) (talk : Talk) (results : List Result) (said : List Said) where
       -- What a purpose stands for (this project's own).
       abbrev pub Serves : List ℕ → Purpose → Type 0
-      Serves command purposes.Directory = Before (λ n. k.restarts s ≤ n) (Looks command) talk results said
-      Serves command (purposes.Final given rest) = Within objects rest (λ n. k.restarts s ≤ n) (Offers s command given) talk results said
-      Serves command (purposes.Kernel rest) = Within objects rest (λ n. k.restarts s ≤ n) (Sends s command) talk results said
+      Serves command plain.Directory = Before (λ n. k.restarts s ≤ n) (Looks command) talk results said
+      Serves command (plain.Final given rest) = Within objects rest (λ n. k.restarts s ≤ n) (Offers s command given) talk results said
+      Serves command (plain.Kernel rest) = Within objects rest (λ n. k.restarts s ≤ n) (Sends s command) talk results said
 
       -- What a wish stands for: by these results the talk has said these events, and goes on with the wish (this project's own).
       abbrev pub Wished : Wish → Type 0
-      Wished (wishes.Command command purpose) = Serves command purpose
-      Wished (wishes.Close again) = Before (λ n. RestartsAt (wishes.Close again) n (k.restarts s)) (Closes again) talk results said
+      Wished (plain.Command command purpose) = Serves command purpose
+      Wished (plain.Close again) = Before (λ n. RestartsAt (plain.Close again) n (k.restarts s)) (Closes again) talk results said × CloseDecided again said

@@ -7,6 +7,9 @@ ghost use Rattle.ep_base.specs.Said.{Said, Ending, End as EndSaid};
 ghost use Rattle.ep_base.specs.Talk.{Talk, Result, Over};
 ghost use Rattle.law_lane.specs.Standing.{standing};
 ghost use Rattle.session_event.specs.Event.{said_of_end};
+ghost use Rattle.session_phases.specs.declared.steps.Selection.{Selection};
+ghost use Rattle.session_phases.specs.Causes.{EndDecided};
+ghost use Rattle.session_phases.specs.Plain.{onward_of};
 ghost use Rattle.session_phases.specs.Rounds.{polls, presents};
 ghost use Rattle.session_phases.specs.Shown.{PollsThen};
 ghost use Rattle.session_phases.specs.Stands.{EndsSo, RoundTurned, goes_on};
@@ -14,31 +17,33 @@ ghost use Rattle.session_phases.specs.Told.{Comes, told_by};
 
 use crate::events::note;
 use crate::polling::open_round;
-use crate::steps::Onward;
+use crate::steps::{Onward, Round};
 use poll_activate::Rounds;
+use rf_frame::Ask;
 use session_event::{End, Event, EventList};
 
 /// The rounds of a Start B that may follow its first one.
 const MORE_ROUNDS: u8 = 63;
 
 /// A Start B begins, in which no round has ended.
-pub(crate) fn start_b(fsdi: u8, rounds: &mut Rounds) -> Onward
+pub(crate) fn start_b(fsdi: u8, rounds: &mut Rounds, round: &mut Round, ask: &mut Ask) -> Onward
     requires { fsdi < 16 }
-    ensures turned { (talk : Talk) (results : List Result) (said : List Said) (next : List ℕ → Talk) (link : Option OpenLink) (end : Option Held)
+    ensures turned { (talk : Talk) (results : List Result) (said : List Said) (next : List ℕ → Talk) (link : Option OpenLink) (end : Option Held) (selection : Selection)
         → Comes talk results said (polls 63 false (presents next))
-        → RoundTurned fsdi end result talk (standing talk results link) said next }
-    ensures goes_on { (is_open is_fresh : Bool) (end : Option Held) → goes_on is_open is_fresh end result ≡ true }
+        → RoundTurned fsdi end (onward_of result ask.new round.new selection) talk (standing talk results link) said next }
+    ensures goes_on { (is_open is_fresh : Bool) (end : Option Held) (selection : Selection) → goes_on is_open is_fresh end (onward_of result ask.new round.new selection) ≡ true }
     ensures rounds { rounds.new.items ≡ [] }
-    ensures left { PollsThen result 63 }
+    ensures left { (selection : Selection) → PollsThen (onward_of result ask.new round.new selection) 63 }
 {
     rounds.clear();
-    open_round(fsdi, MORE_ROUNDS, false)
+    open_round(fsdi, MORE_ROUNDS, false, round, ask)
 }
 
 /// The talk is over: its end is noted.
 pub(crate) fn finish(end: End, events: &mut EventList) -> Onward
     requires { array_vec_len events.old < 24 }
     ensures ended { (talk : Talk) (results : List Result) (before : List Said) (link : Option OpenLink) (e : Ending) → said_of_end end ≡ EndSaid e
+        → EndDecided end (before ++ told_by events.old.items)
         → Comes talk results (before ++ told_by events.old.items) (Over e)
         → EndsSo end talk (standing talk results link) (before ++ told_by events.new.items) }
     ensures word { result ≡ Onward.Ended end }

@@ -7,13 +7,14 @@ ghost use Rattle.ep_base.specs.PreProcessing.{Ready};
 ghost use Rattle.ep_base.specs.Said.{Said};
 ghost use Rattle.ep_base.specs.Talk.{Talk, Result};
 ghost use Rattle.select_rules.specs.Left.{StandsFor};
+ghost use Rattle.session_phases.specs.Plain.{wish_of};
 ghost use Rattle.session_phases.specs.Room.{HasRoom};
 ghost use Rattle.session_phases.specs.Told.{told_by};
 ghost use Rattle.session_phases.specs.Wishes.{Before, Lists, Wished, serves_wish};
 
 use crate::events::note;
 use crate::selecting::select_left;
-use crate::steps::Wish;
+use crate::steps::{Selection, Wish};
 use apdu::Response;
 use kernel_port::Kernels;
 use ppse::read_directory;
@@ -31,6 +32,7 @@ pub fn count_of(candidates: &Candidates) -> u16
 
 /// The candidates of the directory that was answered, of which the first is selected.
 pub(crate) fn after_directory<K: Kernels>(
+    selection: &mut Selection,
     response: &Response,
     prepared: &Prepared,
     arena: &mut Arena,
@@ -41,14 +43,14 @@ pub(crate) fn after_directory<K: Kernels>(
     requires room { HasRoom arena.old.contents }
     ensures wishes { (talk : Talk) (results : List Result) (before : List Said)
         → Before K.steps prepared.now.list (λ n. K.steps.restarts (K.state kernels.now) ≤ n) (Lists K.steps prepared.now.list (K.state kernels.now) response.now) talk results (before ++ told_by events.old.items)
-        → Wished K.steps prepared.now.list (K.state kernels.now) arena.new.objects talk results (before ++ told_by events.new.items) result }
-    ensures serves { serves_wish (K.is_open kernels.now) (K.is_fresh kernels.now) result ≡ true }
+        → Wished K.steps prepared.now.list (K.state kernels.now) arena.new.objects talk results (before ++ told_by events.new.items) (wish_of result selection.new) }
+    ensures serves { serves_wish (K.is_open kernels.now) (K.is_fresh kernels.now) (wish_of result selection.new) ≡ true }
     ensures room { HasRoom arena.new.contents }
     ensures count { array_vec_len events.new ≤ array_vec_len events.old + 3 }
 {
     arena.clear();
     let directory = read_directory(arena, response);
-    let candidates = Candidates::build(prepared, arena, &directory);
-    note(events, Event::Candidates(count_of(&candidates)));
-    select_left(candidates, prepared, arena, kernels, events)
+    selection.rest = Candidates::build(prepared, arena, &directory);
+    note(events, Event::Candidates(count_of(&selection.rest)));
+    select_left(selection, prepared, arena, kernels, events)
 }

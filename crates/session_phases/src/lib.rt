@@ -3,6 +3,7 @@
 #![tactic(auto)]
 
 mod answering;
+mod blank;
 mod closing;
 mod directory;
 mod events;
@@ -15,9 +16,10 @@ mod running;
 mod selecting;
 mod steps;
 
+pub use answering::respond;
 pub use directory::count_of;
 pub use hearing::hear;
 pub use offers::{activation_of, answered, current, is_success};
 pub use opening::begin;
 pub use polling::PPSE_NAME;
-pub use steps::{Desk, Onward, Purpose, Round, Step, Wish};
+pub use steps::{Onward, Phase, Presentation, Purpose, Round, Selection, Wish};

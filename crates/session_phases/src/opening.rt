@@ -5,17 +5,19 @@ ghost use Rattle.ep_base.specs.EntryPoint.{say_ready, transaction};
 ghost use Rattle.ep_base.specs.Said.{Said, Finished};
 ghost use Rattle.ep_base.specs.Talk.{Talk, Result, Over};
 ghost use Rattle.law_lane.specs.Standing.{started};
-ghost use Rattle.session_phases.specs.Opening.{opens};
+ghost use Rattle.session_phases.specs.Opening.{opens, OpenDecided};
 ghost use Rattle.poll_activate.specs.Meaning.{ends_of};
-ghost use Rattle.session_phases.specs.Shown.{FitsThen};
+ghost use Rattle.session_phases.specs.Plain.{onward_of};
+ghost use Rattle.session_phases.specs.Shown.{DoneThen, FitsThen};
 ghost use Rattle.session_phases.specs.Stands.{Turned, goes_on, link_held};
 ghost use Rattle.session_phases.specs.Told.{Comes, told_by};
 
 use crate::closing::{finish, start_b};
 use crate::events::note;
-use crate::steps::{Desk, Onward};
+use crate::steps::{Onward, Presentation};
 use kernel_port::{Kernels, Message, OutcomeKind};
 use pre_processing::{Prepared, PreparedOne};
+use rf_frame::Ask;
 use session_event::{End, Event, EventList};
 
 /// Notes what Pre-Processing found of each Combination.
@@ -46,6 +48,7 @@ fn open(prepared: &Prepared, events: &mut EventList) -> bool
     ensures goes { (talk : Talk) (results : List Result) (before : List Said) (next : Talk)
         → Comes talk results (before ++ told_by events.old.items) (opens prepared.now.txn_type prepared.now.amount prepared.now.list next)
         → Comes talk results (before ++ told_by events.new.items) (if result then next else Over Finished) }
+    ensures decided { OpenDecided result (told_by events.new.items) }
     ensures count { array_vec_len events.new ≤ array_vec_len events.old + 19 }
 {
     let start = Event::Start {
@@ -69,23 +72,25 @@ pub fn begin<K: Kernels>(
     prepared: &Prepared,
     kernels: &K,
     fsdi: u8,
-    desk: &mut Desk,
+    presentation: &mut Presentation,
     events: &mut EventList,
+    ask: &mut Ask,
 ) -> Onward
     requires code { fsdi < 16 }
     requires empty { array_vec_len events.old ≡ 0 }
     ensures turned { let talk = transaction K.steps prepared.now.txn_type prepared.now.amount prepared.now.list (K.state kernels.now) in
-        Turned K.steps prepared.now.list (K.state kernels.now) desk.new.arena.objects fsdi (link_held desk.new.link) result talk (started talk) (told_by events.new.items) }
-    ensures goes_on { goes_on (K.is_open kernels.now) (K.is_fresh kernels.now) (link_held desk.new.link) result ≡ true }
-    ensures arena { desk.new.arena ≡ desk.old.arena }
-    ensures rounds { desk.new.rounds.items ≡ [] }
-    ensures fits { FitsThen result (ends_of desk.new.rounds.items) }
-    ensures link { desk.new.link ≡ None }
+        Turned K.steps prepared.now.list (K.state kernels.now) presentation.new.arena.objects fsdi (link_held presentation.new.link) (onward_of result ask.new presentation.new.round presentation.new.selection) talk (started talk) (told_by events.new.items) }
+    ensures goes_on { goes_on (K.is_open kernels.now) (K.is_fresh kernels.now) (link_held presentation.new.link) (onward_of result ask.new presentation.new.round presentation.new.selection) ≡ true }
+    ensures arena { presentation.new.arena ≡ presentation.old.arena }
+    ensures rounds { presentation.new.rounds.items ≡ [] }
+    ensures fits { FitsThen (onward_of result ask.new presentation.new.round presentation.new.selection) (ends_of presentation.new.rounds.items) }
+    ensures done { DoneThen (onward_of result ask.new presentation.new.round presentation.new.selection) }
+    ensures link { presentation.new.link ≡ None }
 {
-    desk.link = None;
-    desk.rounds.clear();
+    presentation.link = None;
+    presentation.rounds.clear();
     if open(prepared, events) {
-        return start_b(fsdi, &mut desk.rounds);
+        return start_b(fsdi, &mut presentation.rounds, &mut presentation.round, ask);
     }
     finish(End::Done, events)
 }

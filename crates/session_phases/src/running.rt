@@ -5,23 +5,23 @@ ghost use Rattle.ep_base.specs.Said.{Said};
 ghost use Rattle.ep_base.specs.Talk.{Talk, Result};
 ghost use Rattle.kernel_port.specs.Kernels.{move_of, is_send, RestartsFall};
 ghost use Rattle.kernel_port.specs.Outcome.{verdict_of};
+ghost use Rattle.session_phases.specs.Plain.{wish_of};
 ghost use Rattle.session_phases.specs.Told.{told_by};
 ghost use Rattle.session_phases.specs.Wishes.{Within, Decides, Moves, Activates, Hears, Wished, RestartsLeft, serves_wish};
 
 use crate::events::{note, note_outcome};
 use crate::selecting::select_left;
-use crate::steps::{Purpose, Wish};
+use crate::steps::{Purpose, Selection, Wish};
 use apdu::Response;
-use kernel_port::{Activation, KernelStep, Kernels, Outcome, OutcomeKind};
+use kernel_port::{KernelStep, Kernels, Outcome, OutcomeKind};
 use pre_processing::Prepared;
-use select_rules::Candidates;
 use session_event::{Event, EventList};
 use tlv_arena::Arena;
 
 /// What follows an outcome: the candidates that are left, a new Start B, or the end.
 fn decide<K: Kernels>(
     outcome: Outcome,
-    rest: Candidates,
+    selection: &mut Selection,
     prepared: &Prepared,
     arena: &Arena,
     kernels: &K,
@@ -29,14 +29,14 @@ fn decide<K: Kernels>(
 ) -> Wish
     requires { array_vec_len events.old + 4 ≤ 24 }
     ensures wishes { (talk : Talk) (results : List Result) (before : List Said)
-        → Within K.steps prepared.now.list arena.now.objects rest (λ n. RestartsFall outcome.kind n (K.steps.restarts (K.state kernels.now))) (Decides K.steps prepared.now.list (K.state kernels.now) (verdict_of outcome)) talk results (before ++ told_by events.old.items)
-        → Wished K.steps prepared.now.list (K.state kernels.now) arena.now.objects talk results (before ++ told_by events.new.items) result }
-    ensures serves { serves_wish (K.is_open kernels.now) (K.is_fresh kernels.now) result ≡ true }
+        → Within K.steps prepared.now.list arena.now.objects selection.old.rest (λ n. RestartsFall outcome.kind n (K.steps.restarts (K.state kernels.now))) (Decides K.steps prepared.now.list (K.state kernels.now) (verdict_of outcome)) talk results (before ++ told_by events.old.items)
+        → Wished K.steps prepared.now.list (K.state kernels.now) arena.now.objects talk results (before ++ told_by events.new.items) (wish_of result selection.new) }
+    ensures serves { serves_wish (K.is_open kernels.now) (K.is_fresh kernels.now) (wish_of result selection.new) ≡ true }
     ensures count { array_vec_len events.new ≤ array_vec_len events.old + 4 }
 {
     note_outcome(events, outcome);
     match outcome.kind {
-        OutcomeKind::SelectNext => select_left(rest, prepared, arena, kernels, events),
+        OutcomeKind::SelectNext => select_left(selection, prepared, arena, kernels, events),
         OutcomeKind::TryAgain => Wish::Close { again: true },
         OutcomeKind::Approved => Wish::Close { again: false },
         OutcomeKind::Declined => Wish::Close { again: false },
@@ -49,7 +49,7 @@ fn decide<K: Kernels>(
 /// What follows a kernel's step: its command, or what follows its outcome.
 fn go_on<K: Kernels>(
     step: KernelStep,
-    rest: Candidates,
+    selection: &mut Selection,
     prepared: &Prepared,
     arena: &Arena,
     kernels: &K,
@@ -59,24 +59,23 @@ fn go_on<K: Kernels>(
     requires opened { K.is_open kernels.now ≡ is_send step }
     requires begun { K.is_fresh kernels.now ≡ false }
     ensures wishes { (talk : Talk) (results : List Result) (before : List Said)
-        → Within K.steps prepared.now.list arena.now.objects rest (λ n. RestartsLeft (move_of step) n (K.steps.restarts (K.state kernels.now))) (Moves K.steps prepared.now.list (K.state kernels.now) (move_of step)) talk results (before ++ told_by events.old.items)
-        → Wished K.steps prepared.now.list (K.state kernels.now) arena.now.objects talk results (before ++ told_by events.new.items) result }
-    ensures serves { serves_wish (K.is_open kernels.now) (K.is_fresh kernels.now) result ≡ true }
+        → Within K.steps prepared.now.list arena.now.objects selection.old.rest (λ n. RestartsLeft (move_of step) n (K.steps.restarts (K.state kernels.now))) (Moves K.steps prepared.now.list (K.state kernels.now) (move_of step)) talk results (before ++ told_by events.old.items)
+        → Wished K.steps prepared.now.list (K.state kernels.now) arena.now.objects talk results (before ++ told_by events.new.items) (wish_of result selection.new) }
+    ensures serves { serves_wish (K.is_open kernels.now) (K.is_fresh kernels.now) (wish_of result selection.new) ≡ true }
     ensures count { array_vec_len events.new ≤ array_vec_len events.old + 4 }
 {
     match step {
         KernelStep::Send(command) => {
-            let purpose = Purpose::Kernel { rest };
-            Wish::Command { command, purpose }
+            selection.command = command;
+            Wish::Command(Purpose::Kernel)
         }
-        KernelStep::Done(outcome) => decide(outcome, rest, prepared, arena, kernels, events),
+        KernelStep::Done(outcome) => decide(outcome, selection, prepared, arena, kernels, events),
     }
 }
 
 /// A kernel is activated, and makes its first step.
 pub(crate) fn activate<K: Kernels>(
-    activation: Activation,
-    rest: Candidates,
+    selection: &mut Selection,
     prepared: &Prepared,
     arena: &Arena,
     kernels: &mut K,
@@ -84,20 +83,20 @@ pub(crate) fn activate<K: Kernels>(
 ) -> Wish
     requires { array_vec_len events.old + 5 ≤ 24 }
     ensures wishes { (talk : Talk) (results : List Result) (before : List Said)
-        → Within K.steps prepared.now.list arena.now.objects rest (λ n. K.steps.restarts (K.state kernels.old) ≤ n) (Activates K.steps prepared.now.list (K.state kernels.old) activation) talk results (before ++ told_by events.old.items)
-        → Wished K.steps prepared.now.list (K.state kernels.new) arena.now.objects talk results (before ++ told_by events.new.items) result }
-    ensures serves { serves_wish (K.is_open kernels.new) (K.is_fresh kernels.new) result ≡ true }
+        → Within K.steps prepared.now.list arena.now.objects selection.old.rest (λ n. K.steps.restarts (K.state kernels.old) ≤ n) (Activates K.steps prepared.now.list (K.state kernels.old) selection.old.given) talk results (before ++ told_by events.old.items)
+        → Wished K.steps prepared.now.list (K.state kernels.new) arena.now.objects talk results (before ++ told_by events.new.items) (wish_of result selection.new) }
+    ensures serves { serves_wish (K.is_open kernels.new) (K.is_fresh kernels.new) (wish_of result selection.new) ≡ true }
     ensures count { array_vec_len events.new ≤ array_vec_len events.old + 5 }
 {
-    kernels.begin(&activation);
-    note(events, Event::Activate(activation));
+    kernels.begin(&selection.given);
+    note(events, Event::Activate(selection.given.copy()));
     let step = kernels.step(None);
-    go_on(step, rest, prepared, arena, kernels, events)
+    go_on(step, selection, prepared, arena, kernels, events)
 }
 
 /// After the answer to an open kernel's command: the kernel makes its next step.
 pub(crate) fn after_command<K: Kernels>(
-    rest: Candidates,
+    selection: &mut Selection,
     response: &Response,
     prepared: &Prepared,
     arena: &Arena,
@@ -108,11 +107,11 @@ pub(crate) fn after_command<K: Kernels>(
     requires opened { K.is_open kernels.old ≡ true }
     requires begun { K.is_fresh kernels.old ≡ false }
     ensures wishes { (talk : Talk) (results : List Result) (before : List Said)
-        → Within K.steps prepared.now.list arena.now.objects rest (λ n. K.steps.restarts (K.state kernels.old) ≤ n) (Hears K.steps prepared.now.list (K.state kernels.old) response.now) talk results (before ++ told_by events.old.items)
-        → Wished K.steps prepared.now.list (K.state kernels.new) arena.now.objects talk results (before ++ told_by events.new.items) result }
-    ensures serves { serves_wish (K.is_open kernels.new) (K.is_fresh kernels.new) result ≡ true }
+        → Within K.steps prepared.now.list arena.now.objects selection.old.rest (λ n. K.steps.restarts (K.state kernels.old) ≤ n) (Hears K.steps prepared.now.list (K.state kernels.old) response.now) talk results (before ++ told_by events.old.items)
+        → Wished K.steps prepared.now.list (K.state kernels.new) arena.now.objects talk results (before ++ told_by events.new.items) (wish_of result selection.new) }
+    ensures serves { serves_wish (K.is_open kernels.new) (K.is_fresh kernels.new) (wish_of result selection.new) ≡ true }
     ensures count { array_vec_len events.new ≤ array_vec_len events.old + 4 }
 {
     let step = kernels.step(Some(response));
-    go_on(step, rest, prepared, arena, kernels, events)
+    go_on(step, selection, prepared, arena, kernels, events)
 }

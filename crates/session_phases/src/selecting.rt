@@ -3,23 +3,23 @@ ghost use Rattle.std.specs.Prelude.{◌≡◌, ℕ, ◌+◌, ◌≤◌, List, �
 ghost use Rattle.arrayvec.specs.ArrayVec.{array_vec_len};
 ghost use Rattle.ep_base.specs.Said.{Said};
 ghost use Rattle.ep_base.specs.Talk.{Talk, Result};
+ghost use Rattle.session_phases.specs.Plain.{wish_of};
 ghost use Rattle.session_phases.specs.Told.{told_by};
 ghost use Rattle.session_phases.specs.Wishes.{Within, Selects, Chosen, Wished, serves_wish};
 
 use crate::events::note;
 use crate::offers::{answered, current, is_success};
 use crate::running::activate;
-use crate::steps::{Purpose, Wish};
+use crate::steps::{Purpose, Selection, Wish};
 use apdu::Response;
-use kernel_port::{Activation, Kernels, Message, OutcomeKind};
+use kernel_port::{Kernels, Message, OutcomeKind};
 use pre_processing::Prepared;
-use select_rules::Candidates;
 use session_event::{Event, EventList};
 use tlv_arena::Arena;
 
 /// The final SELECT of the first candidate that is left; where none is, the card is let go.
 pub(crate) fn select_left<K: Kernels>(
-    candidates: Candidates,
+    selection: &mut Selection,
     prepared: &Prepared,
     arena: &Arena,
     kernels: &K,
@@ -27,16 +27,16 @@ pub(crate) fn select_left<K: Kernels>(
 ) -> Wish
     requires { array_vec_len events.old + 2 ≤ 24 }
     ensures wishes { (talk : Talk) (results : List Result) (before : List Said)
-        → Within K.steps prepared.now.list arena.now.objects candidates (λ n. K.steps.restarts (K.state kernels.now) ≤ n) (Selects K.steps prepared.now.list (K.state kernels.now)) talk results (before ++ told_by events.old.items)
-        → Wished K.steps prepared.now.list (K.state kernels.now) arena.now.objects talk results (before ++ told_by events.new.items) result }
-    ensures serves { serves_wish (K.is_open kernels.now) (K.is_fresh kernels.now) result ≡ true }
+        → Within K.steps prepared.now.list arena.now.objects selection.old.rest (λ n. K.steps.restarts (K.state kernels.now) ≤ n) (Selects K.steps prepared.now.list (K.state kernels.now)) talk results (before ++ told_by events.old.items)
+        → Wished K.steps prepared.now.list (K.state kernels.now) arena.now.objects talk results (before ++ told_by events.new.items) (wish_of result selection.new) }
+    ensures serves { serves_wish (K.is_open kernels.now) (K.is_fresh kernels.now) (wish_of result selection.new) ≡ true }
     ensures count { array_vec_len events.new ≤ array_vec_len events.old + 2 }
 {
-    let mut rest = candidates;
-    if let Some((command, given)) = current(&rest, prepared, arena) {
-        rest.remove_current();
-        let purpose = Purpose::Final { given, rest };
-        return Wish::Command { command, purpose };
+    if let Some((command, given)) = current(&selection.rest, prepared, arena) {
+        selection.rest.remove_current();
+        selection.command = command;
+        selection.given = given;
+        return Wish::Command(Purpose::Final);
     }
     note(events, Event::Outcome(OutcomeKind::EndApplication));
     note(events, Event::Message(Message::TryAnotherCard));
@@ -45,8 +45,7 @@ pub(crate) fn select_left<K: Kernels>(
 
 /// After the answer to a final SELECT: its kernel is activated where that is 9000, else the candidates after it follow.
 pub(crate) fn after_select<K: Kernels>(
-    given: &Activation,
-    rest: Candidates,
+    selection: &mut Selection,
     response: &Response,
     prepared: &Prepared,
     arena: &Arena,
@@ -55,14 +54,14 @@ pub(crate) fn after_select<K: Kernels>(
 ) -> Wish
     requires { array_vec_len events.old + 5 ≤ 24 }
     ensures wishes { (talk : Talk) (results : List Result) (before : List Said)
-        → Within K.steps prepared.now.list arena.now.objects rest (λ n. K.steps.restarts (K.state kernels.old) ≤ n) (Chosen K.steps prepared.now.list (K.state kernels.old) given.now response.now) talk results (before ++ told_by events.old.items)
-        → Wished K.steps prepared.now.list (K.state kernels.new) arena.now.objects talk results (before ++ told_by events.new.items) result }
-    ensures serves { serves_wish (K.is_open kernels.new) (K.is_fresh kernels.new) result ≡ true }
+        → Within K.steps prepared.now.list arena.now.objects selection.old.rest (λ n. K.steps.restarts (K.state kernels.old) ≤ n) (Chosen K.steps prepared.now.list (K.state kernels.old) selection.old.given response.now) talk results (before ++ told_by events.old.items)
+        → Wished K.steps prepared.now.list (K.state kernels.new) arena.now.objects talk results (before ++ told_by events.new.items) (wish_of result selection.new) }
+    ensures serves { serves_wish (K.is_open kernels.new) (K.is_fresh kernels.new) (wish_of result selection.new) ≡ true }
     ensures count { array_vec_len events.new ≤ array_vec_len events.old + 5 }
 {
     if is_success(response) {
-        let activation = answered(given, response);
-        return activate(activation, rest, prepared, arena, kernels, events);
+        selection.given = answered(&selection.given, response);
+        return activate(selection, prepared, arena, kernels, events);
     }
-    select_left(rest, prepared, arena, kernels, events)
+    select_left(selection, prepared, arena, kernels, events)
 }

@@ -4,45 +4,40 @@ use apdu::Command;
 use block_reader::ReaderEnd;
 use kernel_port::Activation;
 use poll_activate::{Poll, Rounds};
-use rf_frame::Ask;
 use select_rules::Candidates;
 use session_event::End;
 use tlv_arena::Arena;
 
 /// What a command is sent for.
-#[derive(Drop)]
+#[derive(Clone, Copy, Debug, PartialEq, Eq)]
 pub enum Purpose {
     /// It asks for the directory.
     Directory,
     /// It is the final SELECT of a candidate.
-    Final {
-        /// What the candidate's kernel is given but for the answer.
-        given: Activation,
-        /// The candidates after it.
-        rest: Candidates,
-    },
+    Final,
     /// It is the open kernel's.
-    Kernel {
-        /// The candidates after the one whose kernel is open.
-        rest: Candidates,
-    },
+    Kernel,
 }
 
 /// What is wished of the card that is presented.
-#[derive(Drop)]
+#[derive(Clone, Copy, Debug, PartialEq, Eq)]
 pub enum Wish {
-    /// An answer to a command.
-    Command {
-        /// The command.
-        command: Command,
-        /// What it is sent for.
-        purpose: Purpose,
-    },
+    /// An answer to the selection's command, which is sent for this.
+    Command(Purpose),
     /// That it is let go.
     Close {
         /// Whether a new Start B follows.
         again: bool,
     },
+}
+
+/// What the next exchange is of.
+#[derive(Clone, Copy, Debug, PartialEq, Eq)]
+pub enum Phase {
+    /// The poll round that is held.
+    Polling,
+    /// What is wished of the card that is presented.
+    Waiting(Wish),
 }
 
 /// A poll round of a Start B.
@@ -56,36 +51,37 @@ pub struct Round {
     pub collided: bool,
 }
 
-/// What the next exchange is of.
+/// What is kept of a presented card while a command waits for its answer.
 #[derive(Drop)]
-pub enum Step {
-    /// A poll round.
-    Polling(Round),
-    /// What is wished of the card that is presented.
-    Waiting(Wish),
+pub struct Selection {
+    /// The command that was sent last.
+    pub command: Command,
+    /// What the current candidate's kernel is given but for the answer to its final SELECT.
+    pub given: Activation,
+    /// The candidates after the current one.
+    pub rest: Candidates,
 }
 
 /// What follows an exchange.
-#[derive(Drop)]
+#[derive(Clone, Copy, Debug, PartialEq, Eq)]
 pub enum Onward {
-    /// Another exchange.
-    Ask {
-        /// What is asked in it.
-        ask: Ask,
-        /// What it is of.
-        step: Step,
-    },
+    /// Another exchange, which is of this. What is asked in it was written.
+    Goes(Phase),
     /// The transaction has ended.
     Ended(End),
 }
 
-/// What a session keeps beside its transaction.
+/// What a session keeps in place.
 #[derive(Drop)]
-pub struct Desk {
+pub struct Presentation {
     /// The objects of the last directory.
     pub arena: Arena,
     /// The reader's end of the last link.
     pub link: Option<ReaderEnd>,
     /// How the rounds of the last Start B ended.
     pub rounds: Rounds,
+    /// The last poll round.
+    pub round: Round,
+    /// What is kept of the last presented card.
+    pub selection: Selection,
 }

@@ -1,3 +1,5 @@
+use Rattle.std.proofs.Common.{[], ◌∷◌, ◌++◌, ap, ◌∙◌}
+use Rattle.ep_base.specs.Said.{Given, Tells, Activate}
 use Rattle.kernel_port.specs.Kernels.{move_of}
 use Rattle.session_phases.specs.Told.{told_by}
 use Rattle.session_phases.proofs.Wishing.{activated}
@@ -6,6 +8,6 @@ use Rattle.session_phases.proofs.running.activate.Goals as goal
 pub returns-clause-wishes : goal.returns-clause-wishes
 returns-clause-wishes g c = λ talk results before h.
     c.go_on.ensures.wishes talk results before
-    (activated g.K.Kernels.steps c.args.prepared.now.list c.args.arena.now.objects talk results before (told_by c.args.events.now.items) (g.K.Kernels.state c.args.kernels.now) c.args.rest c.args.activation
+    (activated g.K.Kernels.steps c.args.prepared.now.list c.args.arena.now.objects talk results before (told_by c.args.events.now.items) (g.K.Kernels.state c.args.kernels.now) c.args.selection.now.rest c.args.selection.now.given
     (g.K.Kernels.state c.begin.new.self) (g.K.Kernels.state c.step-step.new.self) (move_of c.step-step.result) (told_by c.note.new.events.items)
-    c.begin.ensures.step c.begin.ensures.restarts c.step-step.ensures.step c.step-step.ensures.counts c.note.ensures.told h)
+    c.begin.ensures.step c.begin.ensures.restarts c.step-step.ensures.step c.step-step.ensures.counts (c.note.ensures.told ∙ ap (λ (given : Given). told_by c.args.events.now.items ++ Tells (Activate given) ∷ []) c.copy.ensures) h)
