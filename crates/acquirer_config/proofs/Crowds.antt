@@ -1,7 +1,7 @@
 -- Looking for a type that has too many Combinations, one type after the other.
 use Rattle.std.proofs.Common.{◌≡◌, ℕ, suc, ◌+◌, ◌-◌, ◌<◌, ◌≤◌, List, Some, None, refl, true, false, nat_lt, arith}
 use Rattle.std.proofs.lemmas.Bool.Decides.{nat_tests}
-use Rattle.ep_base.specs.Configuration.{Combination, count_of}
+use Rattle.ep_rules.specs.EntryPoint.Configuration.{Combination, count_of}
 use Rattle.acquirer_config.specs.Config.{crowd_from, crowd}
 use Rattle.ep_base.specs.declared.limits.TheConstants.{TYPE_COMBINATIONS}
 

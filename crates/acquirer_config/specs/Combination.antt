@@ -1,6 +1,6 @@
 -- What a table of the document says of a Combination (the keys are this project's own).
 use Rattle.std.specs.Prelude.{codes, ℕ, List, [], ◌∷◌, false, Result, Ok}
-use Rattle.ep_base.specs.Configuration.{Combination}
+use Rattle.ep_rules.specs.EntryPoint.Configuration.{Combination}
 use Rattle.doc_table.specs.Fault.{Fault}
 use Rattle.doc_table.specs.Read.{◌>>=◌, Reader, Place, table_of, required, optional, defaulted, integer_in, truth, byte_text}
 

@@ -1,6 +1,6 @@
 -- What the root of the document says of the configuration (the keys are this project's own).
 use Rattle.std.specs.Prelude.{codes, ℕ, zero, suc, ◌+◌, pos, List, [], nat_lt, Option, Some, None, Result, Ok, if◌then◌else◌}
-use Rattle.ep_base.specs.Configuration.{Combination, Settings, count_of}
+use Rattle.ep_rules.specs.EntryPoint.Configuration.{Combination, Config, count_of}
 use Rattle.doc_table.specs.Fault.{Fault}
 use Rattle.doc_table.specs.declared.fault.DocKind.TheVariants.{TooMany}
 use Rattle.doc_table.specs.declared.list.ElementKind.TheVariants.{Table}
@@ -27,7 +27,7 @@ combinations path d = do
   list ← list_of Table 0 64 combination path d
   uncrowded path list (crowd list)
 
-unfoldable pub config_at : Place → Result Settings Fault
+unfoldable pub config_at : Place → Result Config Fault
 config_at root = do
   exponent ← defaulted 2 (integer_in 0 4) (codes "exponent") root
   list ← defaulted [] combinations (codes "combinations") root

@@ -39,7 +39,7 @@ pub struct Combination {
 }
 
 impl Model for Combination {
-    ghost use Rattle.ep_base.specs.Configuration.{Combination};
+    ghost use Rattle.ep_rules.specs.EntryPoint.Configuration.{Combination};
 
     ghost Value = { Combination };
 
@@ -102,7 +102,7 @@ const MOST: u64 = 999_999_999_999;
 pub struct CombinationTable;
 
 impl Read for CombinationTable {
-    ghost use Rattle.ep_base.specs.Configuration.{Combination as CombinationData};
+    ghost use Rattle.ep_rules.specs.EntryPoint.Configuration.{Combination as CombinationData};
     ghost use Rattle.acquirer_config.specs.Combination.{combination};
 
     type Out = Combination;

@@ -1,7 +1,7 @@
 //! The configuration of a reader.
 ghost use Rattle.std.specs.Prelude.{◌≡◌, ◌+◌, ◌<◌, ◌≤◌, ◌^◌, [], codes, length, IfSome};
 ghost use Rattle.toml.specs.View.{table_view};
-ghost use Rattle.ep_base.specs.Configuration.{Settings, AreSettings, AreCombinations, count_of};
+ghost use Rattle.ep_rules.specs.EntryPoint.Configuration.{Config as Settings, AreSettings, AreCombinations, count_of};
 ghost use Rattle.doc_table.specs.Read.{GivesIfRoom, defaulted};
 ghost use Rattle.doc_table.specs.Section.{place};
 ghost use Rattle.acquirer_config.specs.Config.{crowd, config_at, combinations};

@@ -2,7 +2,7 @@
 use Rattle.std.proofs.Common.{◌≡◌, ◌<◌, ◌≤◌, ℕ, ◌+◌, true, List, [], ◌∷◌, ◌++◌, length, arith, length-append}
 use Rattle.std.proofs.lemmas.Grind.{common_steps}
 use Rattle.std.proofs.lemmas.Bool.Decides.{nat_tests}
-use Rattle.ep_base.specs.Apdu.{is_command, select}
+use Rattle.ep_base.specs.Cards.Apdu.{is_command, select}
 
 pub select-is_command : (name : List ℕ) → 0 < length name → length name ≤ 16 → is_command (select name) ≡ true
 unfolding is_command

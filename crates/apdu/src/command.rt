@@ -1,6 +1,6 @@
 //! Commands.
 ghost use Rattle.std.specs.Prelude.{◌≡◌, ◌<◌, ◌≤◌, ◌↔◌, true, false, length, IfOk, IsErrOf};
-ghost use Rattle.ep_base.specs.Apdu.{is_command, select};
+ghost use Rattle.ep_base.specs.Cards.Apdu.{is_command, select};
 
 use crate::ApduFault;
 use arrayvec::ArrayVec;
@@ -15,7 +15,7 @@ pub struct Command {
 
 impl Model for Command {
     ghost use Rattle.std.specs.Prelude.{◌≡◌, ◌≤◌, true, length, List, ℕ};
-    ghost use Rattle.ep_base.specs.Apdu.{is_command};
+    ghost use Rattle.ep_base.specs.Cards.Apdu.{is_command};
 
     ghost Value = { List ℕ };
 
@@ -28,7 +28,7 @@ impl Command {
     /// The command that has these bytes: 4; or 5; or, with byte 5 as Lc from 1 up, `5 + Lc` or `6 + Lc` bytes.
     ///
     /// Errors: `Short` under 4 bytes, `TooLong` above 261, `LcWrong` for every other length.
-    #[tactic(auto, unfolding(ep_base::specs::Apdu::is_command))]
+    #[tactic(auto, unfolding(ep_base::specs::Cards::Apdu::is_command))]
     pub fn of(bytes: &[u8]) -> Result<Command, ApduFault>
         ensures ok { IfOk result (λ c. (c ≡ bytes.now) × (is_command bytes.now ≡ true)) }
         ensures short { IsErrOf result ApduFault.Short ↔ (length bytes.now < 4) }
@@ -100,7 +100,7 @@ impl Command {
 }
 
 // Whether 4 to 261 bytes have a length that byte 5 allows.
-#[tactic(auto, unfolding(ep_base::specs::Apdu::is_command))]
+#[tactic(auto, unfolding(ep_base::specs::Cards::Apdu::is_command))]
 fn has_right_length(bytes: &[u8]) -> bool
     requires least { 4 ≤ length bytes.now }
     requires most { length bytes.now ≤ COMMAND }

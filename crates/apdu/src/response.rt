@@ -1,6 +1,6 @@
 //! Responses.
 ghost use Rattle.std.specs.Prelude.{◌≡◌, ◌<◌, ◌≤◌, ◌+◌, ◌↔◌, length, IfOk, IsErrOf};
-ghost use Rattle.ep_base.specs.Apdu.{data_of, status_of};
+ghost use Rattle.ep_base.specs.Cards.Apdu.{data_of, status_of};
 
 use crate::ApduFault;
 use arrayvec::ArrayVec;

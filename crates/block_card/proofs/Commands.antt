@@ -3,7 +3,7 @@ use Rattle.std.proofs.Common.{◌≡◌, ℕ, ◌<◌, ◌≤◌, ◌↔◌, fal
 use Rattle.std.specs.Prelude.{Bool, true, Result, Ok, Err, IsErrOf, IsOk}
 use Rattle.apdu.specs.declared.fault.ApduFault.{ApduFault}
 use Rattle.apdu.specs.declared.fault.ApduFault.TheVariants.{Short, LcWrong, TooLong}
-use Rattle.ep_base.specs.Apdu.{is_command}
+use Rattle.ep_base.specs.Cards.Apdu.{is_command}
 
 pub is_command-short : (bytes : List ℕ) → length bytes < 4 → is_command bytes ≡ false
 unfolding is_command

@@ -1,7 +1,7 @@
 -- A message cut from a place on.
 use Rattle.std.proofs.Common.{◌≡◌, ℕ, zero, suc, ◌+◌, ◌<◌, ◌≤◌, List, [], length, take, drop, refl, ap, ⊎_elim, arith, length-drop, drop-drop}
 use Rattle.std.proofs.lemmas.Bool.Decides.{leb_tells}
-use Rattle.ep_base.specs.Parts.{before_parts, cut_by, cut}
+use Rattle.ep_base.specs.Link.Parts.{before_parts, cut_by, cut}
 
 -- A bound on the cuts that is enough matters no further.
 cut_same : (k j size : ℕ) (bytes : List ℕ) → length bytes ≤ k → length bytes ≤ j → 0 < size → cut_by k size bytes ≡ cut_by j size bytes

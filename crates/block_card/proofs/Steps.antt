@@ -5,12 +5,12 @@ use Rattle.std.specs.Prelude.{nat_lt}
 use Rattle.std.proofs.lemmas.List.{append-nil, take-append-drop}
 use Rattle.std.proofs.Math.ListN.{drop_of_length-le}
 use Rattle.std.proofs.lemmas.Bool.Decides.{leb_tells}
-use Rattle.ep_base.specs.Block.{Block, I, RAck, RNak, Wtx, other, same}
+use Rattle.ep_base.specs.Link.Block.{Block, I, RAck, RNak, Wtx, other, same}
 use Rattle.arrayvec.specs.ArrayVec.{ArrayVec}
-use Rattle.ep_base.specs.Apdu.{is_command}
-use Rattle.ep_base.specs.Wire.{maybe_frame}
-use Rattle.ep_base.specs.Parts.{Cut, cut, more}
-use Rattle.ep_base.specs.CardEnd as Rules
+use Rattle.ep_base.specs.Cards.Apdu.{is_command}
+use Rattle.ep_base.specs.Link.Wire.{maybe_frame}
+use Rattle.ep_base.specs.Link.Parts.{Cut, cut, more}
+use Rattle.ep_base.specs.Link.CardEnd as Rules
 use Rattle.block_card.specs.declared.held.Last as L
 use Rattle.block_card.specs.declared.held.Step as N
 use Rattle.block_card.specs.declared.held.CardNext.TheVariants.{Send}

@@ -1,10 +1,10 @@
 -- What a card's end of a link stands for in the block protocol (this project's own).
 use Rattle.std.specs.Prelude.{◌≡◌, ℕ, ◌+◌, ◌-◌, nat_lt, Bool, true, false, if◌then◌else◌, List, [], ◌∷◌, length, take, drop, Option, Some, None}
 use Rattle.ep_base.specs.declared.air.CardKind.{CardKind}
-use Rattle.ep_base.specs.Block.{Block, I, RAck, Deselect, Wtx}
-use Rattle.ep_base.specs.Parts.{cut}
-use Rattle.ep_base.specs.CardEnd.{Card}
-use Rattle.ep_base.specs.CardEnd as Rules
+use Rattle.ep_base.specs.Link.Block.{Block, I, RAck, Deselect, Wtx}
+use Rattle.ep_base.specs.Link.Parts.{cut}
+use Rattle.ep_base.specs.Link.CardEnd.{Card}
+use Rattle.ep_base.specs.Link.CardEnd as Rules
 use Rattle.block_card.specs.declared.held.CardEnd.{CardEnd}
 use Rattle.block_card.specs.declared.held.Last as L
 

@@ -2,12 +2,12 @@
 use Rattle.std.specs.Prelude.{◌≡◌, ℕ, Bool, true, false, List, [], ◌∷◌, ◌++◌, Option, Some, None}
 use Rattle.arrayvec.specs.ArrayVec.{ArrayVec}
 use Rattle.ep_base.specs.declared.air.CardKind.{CardKind}
-use Rattle.ep_base.specs.Apdu.{is_command}
-use Rattle.ep_base.specs.Hearing.{wave_of_kind}
-use Rattle.ep_base.specs.Block.{Block}
-use Rattle.ep_base.specs.CardEnd.{Card, Image, Answer, card_hears, executes, answers, is_halted}
-use Rattle.ep_base.specs.Spelling.{Read, Reads, Refuses, read_block}
-use Rattle.ep_base.specs.Wire.{maybe_frame}
+use Rattle.ep_base.specs.Cards.Apdu.{is_command}
+use Rattle.ep_base.specs.Air.Heard.{wave_of_kind}
+use Rattle.ep_base.specs.Link.Block.{Block}
+use Rattle.ep_base.specs.Link.CardEnd.{Card, Image, Answer, card_hears, executes, answers, is_halted}
+use Rattle.ep_base.specs.Link.Spelling.{Read, Reads, Refuses, read_block}
+use Rattle.ep_base.specs.Link.Wire.{maybe_frame}
 use Rattle.block_card.specs.declared.held.CardNext.{CardNext}
 use Rattle.block_card.specs.declared.held.CardNext.TheVariants.{Mute, Send, Execute}
 use Rattle.block_card.specs.declared.held.Step as S

@@ -1,9 +1,9 @@
 //! The card's end of a link, as it is called.
 ghost use Rattle.std.specs.Prelude.{◌≡◌, ℕ, ◌≤◌, true, List};
 ghost use Rattle.std.specs.Option.{option_copied};
-ghost use Rattle.ep_base.specs.Apdu.{is_command};
-ghost use Rattle.ep_base.specs.Hearing.{wave_of_kind};
-ghost use Rattle.ep_base.specs.CardEnd.{Card, answers, is_halted, fresh_card};
+ghost use Rattle.ep_base.specs.Cards.Apdu.{is_command};
+ghost use Rattle.ep_base.specs.Air.Heard.{wave_of_kind};
+ghost use Rattle.ep_base.specs.Link.CardEnd.{Card, answers, is_halted, fresh_card};
 ghost use Rattle.block_card.specs.declared.held.CardNext.TheVariants as next;
 ghost use Rattle.block_card.specs.Held.{IsCard, held_card, card_of, kind_of, fsd_of};
 ghost use Rattle.block_card.specs.Shows.{Answers, IsReady, next_of, ShowsFrame};

@@ -1,9 +1,9 @@
 //! The blocks that a card sends: parts of its response, and the last block again.
 ghost use Rattle.std.specs.Prelude.{◌≡◌, ℕ, ◌≤◌, ◌-◌, ◌==◌, Some, List, drop};
-ghost use Rattle.ep_base.specs.Spelling.{spelled};
-ghost use Rattle.ep_base.specs.Frame.{sealed};
-ghost use Rattle.ep_base.specs.Parts.{cut};
-ghost use Rattle.ep_base.specs.CardEnd.{sends_part};
+ghost use Rattle.ep_base.specs.Link.Spelling.{spelled};
+ghost use Rattle.ep_base.specs.Air.Frame.{sealed};
+ghost use Rattle.ep_base.specs.Link.Parts.{cut};
+ghost use Rattle.ep_base.specs.Link.CardEnd.{sends_part};
 ghost use Rattle.block_pcb.specs.Meaning.{block_of, InRange};
 ghost use Rattle.block_card.specs.declared.held.Step.TheVariants as steps;
 ghost use Rattle.block_card.specs.declared.held.Last.TheVariants as last;

@@ -1,7 +1,7 @@
 //! The card's rules, for each kind of block.
 ghost use Rattle.std.specs.Prelude.{◌≡◌, ℕ, ◌≤◌, Bool, false, List, length};
-ghost use Rattle.ep_base.specs.Block as plain;
-ghost use Rattle.ep_base.specs.CardEnd.{Card, Answer, again, answers};
+ghost use Rattle.ep_base.specs.Link.Block as plain;
+ghost use Rattle.ep_base.specs.Link.CardEnd.{Card, Answer, again, answers};
 ghost use Rattle.block_pcb.specs.Meaning.{block_of};
 ghost use Rattle.block_card.specs.declared.held.Step.TheVariants as steps;
 ghost use Rattle.block_card.specs.Held.{IsCard, held_card, HasLast};

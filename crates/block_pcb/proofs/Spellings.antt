@@ -4,8 +4,8 @@ use Rattle.std.specs.List.{All}
 use Rattle.std.proofs.lemmas.List.Elements.{All-head, All-tail}
 use Rattle.std.proofs.lemmas.Bool.{leb-true}
 use Rattle.std.proofs.lemmas.Bool.Decides.{leb_tells, eqb_tells}
-use Rattle.ep_base.specs.Block.{Block, I, RAck, RNak, Deselect, Wtx}
-use Rattle.ep_base.specs.Spelling.{number_bit, chaining_bit, spelled, is_block, Announced, AnI, AnAck, ANak, ADeselect, AWtx, Nothing, announced, Read, Reads, Refuses, read_bare, read_wtx_byte, read_after, read_block}
+use Rattle.ep_base.specs.Link.Block.{Block, I, RAck, RNak, Deselect, Wtx}
+use Rattle.ep_base.specs.Link.Spelling.{number_bit, chaining_bit, spelled, is_block, Announced, AnI, AnAck, ANak, ADeselect, AWtx, Nothing, announced, Read, Reads, Refuses, read_bare, read_wtx_byte, read_after, read_block}
 use Rattle.block_pcb.specs.Laws.{IsByte}
 
 -- ---- a spelled block is read as itself

@@ -1,7 +1,7 @@
 -- Laws about the spellings of blocks (ISO/IEC 14443-4).
 use Rattle.std.specs.Prelude.{ℕ, ◌≡◌, ◌<◌, true, List, All}
-use Rattle.ep_base.specs.Block.{Block}
-use Rattle.ep_base.specs.Spelling.{is_block, spelled, Reads, read_block}
+use Rattle.ep_base.specs.Link.Block.{Block}
+use Rattle.ep_base.specs.Link.Spelling.{is_block, spelled, Reads, read_block}
 
 -- Each block that has a spelling is read again from it.
 abbrev pub SpelledIsRead : Type 0

@@ -1,7 +1,7 @@
 -- What blocks, and bytes that were read as such, stand for in plain data (this project's own).
 use Rattle.std.specs.Prelude.{◌≤◌, ◌==◌, length, Result, Ok, Err}
-use Rattle.ep_base.specs.Block as plain
-use Rattle.ep_base.specs.Spelling.{Read, Reads, Refuses}
+use Rattle.ep_base.specs.Link.Block as plain
+use Rattle.ep_base.specs.Link.Spelling.{Read, Reads, Refuses}
 use Rattle.ep_base.specs.declared.blocks.BlockFault.{BlockFault}
 use Rattle.block_pcb.specs.declared.blocks.Block.{Block}
 use Rattle.block_pcb.specs.declared.blocks.Block.TheVariants.{I, RAck, RNak, Deselect, Wtx}

@@ -1,7 +1,7 @@
 //! Blocks written as bytes.
 ghost use Rattle.std.specs.Prelude.{◌≡◌, ◌≤◌, []};
 ghost use Rattle.arrayvec.specs.ArrayVec.{array_vec_len};
-ghost use Rattle.ep_base.specs.Spelling.{pcb_of, inf_of, spelled};
+ghost use Rattle.ep_base.specs.Link.Spelling.{pcb_of, inf_of, spelled};
 ghost use Rattle.block_pcb.specs.Meaning.{block_of, InRange};
 
 use crate::Block;

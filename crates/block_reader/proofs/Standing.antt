@@ -2,14 +2,14 @@
 use Rattle.std.proofs.Common.{◌≡◌, ℕ, ◌-◌, Bool, true, false, List, [], ◌∷◌, ◌++◌, refl, sym, ap, ◌∙◌, subst}
 use Rattle.std.specs.Prelude.{reverse}
 use Rattle.std.proofs.lemmas.List.{reverse-append}
-use Rattle.ep_base.specs.Hearing.{Asked, Hearing}
-use Rattle.ep_base.specs.Block.{Block, Heard, other, same}
-use Rattle.ep_base.specs.ReaderEnd.{Reader, Phase, Turn, Asks, Gives, Spends, Breaks, question, asked, begin, reader_hears}
-use Rattle.ep_base.specs.Dialogue.{block_of}
-use Rattle.ep_base.specs.Spelling.{number_bit}
-use Rattle.ep_base.specs.LinkFrames.{LinkSetting, Kept, BreachData, block_ask, heard_block, breach_of, frame_heard, phase_shown}
-use Rattle.ep_base.specs.LinkEvents.{AreKept, LinkEvent, Begins, Hears, Standing, frame_of, exchange_of, kept_after, then_stands, then_link, standing_from, standing_after}
-use Rattle.ep_base.specs.Carry.{turn_on}
+use Rattle.ep_base.specs.Air.Heard.{Ask as Asked, Heard}
+use Rattle.ep_base.specs.Link.Block.{Block, ReadBlock, other, same}
+use Rattle.ep_base.specs.Link.ReaderEnd.{Reader, Phase, Turn, Asks, Gives, Spends, Breaks, question, asked, begin, reader_hears}
+use Rattle.ep_base.specs.Link.Dialogue.{block_of}
+use Rattle.ep_base.specs.Link.Spelling.{number_bit}
+use Rattle.ep_base.specs.Link.LinkFrames.{LinkSetting, Kept, BreachData, block_ask, heard_block, breach_of, frame_heard, phase_shown}
+use Rattle.ep_base.specs.Link.LinkEvents.{AreKept, LinkEvent, Begins, Hears, Standing, frame_of, exchange_of, kept_after, then_stands, then_link, standing_from, standing_after}
+use Rattle.ep_base.specs.Link.Carry.{turn_on}
 use Rattle.block_reader.specs.declared.stages.Stage.{Stage}
 use Rattle.block_reader.specs.declared.stages.Stage.TheVariants as stage
 use Rattle.block_reader.specs.declared.stages.Question.{Question}
@@ -28,7 +28,7 @@ use Rattle.block_reader.specs.Stands.{Held, is_open, is_resting, Rests, Asking, 
 latest : (ks : List Kept) (k : Kept) → reverse (ks ++ k ∷ []) ≡ k ∷ reverse ks
 latest ks k = reverse-append ks (k ∷ [])
 
-keeps_more : (set : LinkSetting) (n : Bool) (phase : Phase) (hs : List Heard) (h : Hearing) (ks news : List Kept) → news ≡ ks ++ record { sent = frame_of set (question n phase hs); heard = h } ∷ [] → AreKept set n phase hs (reverse ks) → AreKept set n phase (heard_block set.kind set.frames.reader h ∷ hs) (reverse news)
+keeps_more : (set : LinkSetting) (n : Bool) (phase : Phase) (hs : List ReadBlock) (h : Heard) (ks news : List Kept) → news ≡ ks ++ record { sent = frame_of set (question n phase hs); heard = h } ∷ [] → AreKept set n phase hs (reverse ks) → AreKept set n phase (heard_block set.kind set.frames.reader h ∷ hs) (reverse news)
 keeps_more set n phase hs h ks news e all = rw (e, latest ks (record { sent = frame_of set (question n phase hs); heard = h })) (refl, refl, all)
 
 same_self : (n : Bool) → same n n ≡ true
@@ -56,27 +56,27 @@ open_counted stage.Failed q bad wtx len e c = cc
 open_counted stage.Closed q bad wtx len e c = cc
 
 -- the exchange that is kept, whose block is still the same
-abbrev sent_with : LinkSetting → Hearing → Block → Kept
+abbrev sent_with : LinkSetting → Heard → Block → Kept
 sent_with set h b = record { sent = frame_of set b; heard = h }
 
-pub kept_as : (old : Held) (e : Course) (r : Reader) (h : Hearing) → carried e ≡ carried old.course → asked r ≡ block_due old.course → sent_with old.set h (block_from old.course.question (carried e)) ≡ exchange_of old.set r h
+pub kept_as : (old : Held) (e : Course) (r : Reader) (h : Heard) → carried e ≡ carried old.course → asked r ≡ block_due old.course → sent_with old.set h (block_from old.course.question (carried e)) ≡ exchange_of old.set r h
 kept_as old e r h same is = ap (sent_with old.set h) (ap (block_from old.course.question) same ∙ sym is)
 
 -- the breach is that of the reader
-abbrev shown_by : Course → phases.Phase → Hearing → BreachData
+abbrev shown_by : Course → phases.Phase → Heard → BreachData
 shown_by mid p h = record { frame = frame_heard h; number = number_bit mid.number; phase = p; wtx = mid.wtx }
 
-pub breach_as : (mid : Course) (p : phases.Phase) (h : Hearing) (q : Reader) → IsAt mid q → p ≡ phase_shown q.phase → shown_by mid p h ≡ breach_of q h
+pub breach_as : (mid : Course) (p : phases.Phase) (h : Heard) (q : Reader) → IsAt mid q → p ≡ phase_shown q.phase → shown_by mid p h ≡ breach_of q h
 breach_as mid p h q s is = rw (is, s.number, s.wtx) refl
 
 -- ---- a hearing
 
 -- what was read is what was heard
-pub step_on : (s : Step) (e : Course) (x y : Heard) (frame : ℕ) (r : Reader) → x ≡ y → StepShows s e x r (reader_hears frame r x) → StepShows s e y r (reader_hears frame r y)
-step_on s e x y frame r is shows = subst (λ (h : Heard). StepShows s e h r (reader_hears frame r h)) is shows
+pub step_on : (s : Step) (e : Course) (x y : ReadBlock) (frame : ℕ) (r : Reader) → x ≡ y → StepShows s e x r (reader_hears frame r x) → StepShows s e y r (reader_hears frame r y)
+step_on s e x y frame r is shows = subst (λ (h : ReadBlock). StepShows s e h r (reader_hears frame r h)) is shows
 
 -- without a toggle
-pub asks_again : (old new : Held) (h : Hearing) (r : Reader) (t : Turn) (a : Asked) → StepShows step.Again new.course (heard_block old.set.kind old.set.frames.reader h) r t → Asking old r → new.set ≡ old.set → is_open new ≡ true → new.since ≡ old.since ++ exchange_of old.set r h ∷ [] → a ≡ block_ask new.set.kind new.set.fwi (block_due new.course) → Shows (Ask a) new h t
+pub asks_again : (old new : Held) (h : Heard) (r : Reader) (t : Turn) (a : Asked) → StepShows step.Again new.course (heard_block old.set.kind old.set.frames.reader h) r t → Asking old r → new.set ≡ old.set → is_open new ≡ true → new.since ≡ old.since ++ exchange_of old.set r h ∷ [] → a ≡ block_ask new.set.kind new.set.fwi (block_due new.course) → Shows (Ask a) new h t
 asks_again old new h r (Asks q) a s was set on since is = record {
   says = is ∙ ap (block_ask new.set.kind new.set.fwi) (sym s.sends.block);
   stands = record {
@@ -90,14 +90,14 @@ asks_again old new h r (Gives response q) a s was set on since is = absurd s
 asks_again old new h r (Spends q) a s was set on since is = absurd s
 asks_again old new h r (Breaks q) a s was set on since is = absurd s
 
-pub kept_again : (e : Course) (h : Heard) (r : Reader) (t : Turn) (ks : List Kept) (k : Kept) → StepShows step.Again e h r t → ks ++ k ∷ [] ≡ kept_after ks r t k
+pub kept_again : (e : Course) (h : ReadBlock) (r : Reader) (t : Turn) (ks : List Kept) (k : Kept) → StepShows step.Again e h r t → ks ++ k ∷ [] ≡ kept_after ks r t k
 kept_again e h r (Asks q) ks k s = rw (s.same, same_self r.number) refl
 kept_again e h r (Gives response q) ks k s = absurd s
 kept_again e h r (Spends q) ks k s = absurd s
 kept_again e h r (Breaks q) ks k s = absurd s
 
 -- after a toggle
-pub asks_next : (new : Held) (h : Hearing) (x : Heard) (r : Reader) (t : Turn) (a : Asked) → StepShows step.Toggled new.course x r t → is_open new ≡ true → new.since ≡ [] → a ≡ block_ask new.set.kind new.set.fwi (block_due new.course) → Shows (Ask a) new h t
+pub asks_next : (new : Held) (h : Heard) (x : ReadBlock) (r : Reader) (t : Turn) (a : Asked) → StepShows step.Toggled new.course x r t → is_open new ≡ true → new.since ≡ [] → a ≡ block_ask new.set.kind new.set.fwi (block_due new.course) → Shows (Ask a) new h t
 asks_next new h x r (Asks q) a s on none is = record {
   says = is ∙ ap (block_ask new.set.kind new.set.fwi) (sym s.sends.block);
   stands = record { opened = on; sends = s.sends; kept = rw (s.fresh, none) tt };
@@ -107,14 +107,14 @@ asks_next new h x r (Gives response q) a s on none is = absurd s
 asks_next new h x r (Spends q) a s on none is = absurd s
 asks_next new h x r (Breaks q) a s on none is = absurd s
 
-pub kept_next : (e : Course) (h : Heard) (r : Reader) (t : Turn) (ks : List Kept) (k : Kept) → StepShows step.Toggled e h r t → [] ≡ kept_after ks r t k
+pub kept_next : (e : Course) (h : ReadBlock) (r : Reader) (t : Turn) (ks : List Kept) (k : Kept) → StepShows step.Toggled e h r t → [] ≡ kept_after ks r t k
 kept_next e h r (Asks q) ks k s = rw (s.number, same_other r.number) refl
 kept_next e h r (Gives response q) ks k s = absurd s
 kept_next e h r (Spends q) ks k s = absurd s
 kept_next e h r (Breaks q) ks k s = absurd s
 
 -- with the response
-pub gives : (new : Held) (h : Hearing) (x : Heard) (r : Reader) (t : Turn) (response : List ℕ) → StepShows step.Done new.course x r t → new.since ≡ [] → response ≡ new.course.got → Shows (Done response) new h t
+pub gives : (new : Held) (h : Heard) (x : ReadBlock) (r : Reader) (t : Turn) (response : List ℕ) → StepShows step.Done new.course x r t → new.since ≡ [] → response ≡ new.course.got → Shows (Done response) new h t
 gives new h x r (Asks q) response s none is = absurd s
 gives new h x r (Gives given q) response s none is = record {
   says = is ∙ s.got;
@@ -130,14 +130,14 @@ gives new h x r (Gives given q) response s none is = record {
 gives new h x r (Spends q) response s none is = absurd s
 gives new h x r (Breaks q) response s none is = absurd s
 
-pub kept_given : (e : Course) (h : Heard) (r : Reader) (t : Turn) (ks : List Kept) (k : Kept) → StepShows step.Done e h r t → [] ≡ kept_after ks r t k
+pub kept_given : (e : Course) (h : ReadBlock) (r : Reader) (t : Turn) (ks : List Kept) (k : Kept) → StepShows step.Done e h r t → [] ≡ kept_after ks r t k
 kept_given e h r (Asks q) ks k s = absurd s
 kept_given e h r (Gives response q) ks k s = refl
 kept_given e h r (Spends q) ks k s = absurd s
 kept_given e h r (Breaks q) ks k s = absurd s
 
 -- outside the rules
-pub breaks : (old new : Held) (e : Course) (h : Hearing) (r : Reader) (t : Turn) (b : BreachData) → StepShows step.Breach e (heard_block old.set.kind old.set.frames.reader h) r t → Asking old r → new.set ≡ old.set → new.course ≡ record e { stage = stage.Failed } → new.since ≡ old.since ++ exchange_of old.set r h ∷ [] → ((q : Reader) → IsAt e q → b ≡ breach_of q h) → Shows (Failed (Breach b)) new h t
+pub breaks : (old new : Held) (e : Course) (h : Heard) (r : Reader) (t : Turn) (b : BreachData) → StepShows step.Breach e (heard_block old.set.kind old.set.frames.reader h) r t → Asking old r → new.set ≡ old.set → new.course ≡ record e { stage = stage.Failed } → new.since ≡ old.since ++ exchange_of old.set r h ∷ [] → ((q : Reader) → IsAt e q → b ≡ breach_of q h) → Shows (Failed (Breach b)) new h t
 breaks old new e h r (Asks q) b s was set is since shows = absurd s
 breaks old new e h r (Gives response q) b s was set is since shows = absurd s
 breaks old new e h r (Spends q) b s was set is since shows = absurd s
@@ -147,14 +147,14 @@ breaks old new e h r (Breaks q) b s was set is since shows = record {
   last = rw (set, s.same) (keeps_more old.set r.number r.phase r.since h old.since new.since since was.kept);
 }
 
-pub kept_broken : (e : Course) (h : Heard) (r : Reader) (t : Turn) (ks : List Kept) (k : Kept) → StepShows step.Breach e h r t → ks ++ k ∷ [] ≡ kept_after ks r t k
+pub kept_broken : (e : Course) (h : ReadBlock) (r : Reader) (t : Turn) (ks : List Kept) (k : Kept) → StepShows step.Breach e h r t → ks ++ k ∷ [] ≡ kept_after ks r t k
 kept_broken e h r (Asks q) ks k s = absurd s
 kept_broken e h r (Gives response q) ks k s = absurd s
 kept_broken e h r (Spends q) ks k s = absurd s
 kept_broken e h r (Breaks q) ks k s = refl
 
 -- three bad
-pub spends : (old new : Held) (e : Course) (h : Hearing) (r : Reader) (t : Turn) → StepShows step.Spent e (heard_block old.set.kind old.set.frames.reader h) r t → Asking old r → new.set ≡ old.set → new.course ≡ record e { stage = stage.Failed } → new.since ≡ old.since ++ exchange_of old.set r h ∷ [] → Shows (Failed (Spent 3)) new h t
+pub spends : (old new : Held) (e : Course) (h : Heard) (r : Reader) (t : Turn) → StepShows step.Spent e (heard_block old.set.kind old.set.frames.reader h) r t → Asking old r → new.set ≡ old.set → new.course ≡ record e { stage = stage.Failed } → new.since ≡ old.since ++ exchange_of old.set r h ∷ [] → Shows (Failed (Spent 3)) new h t
 spends old new e h r (Asks q) s was set is since = absurd s
 spends old new e h r (Gives response q) s was set is since = absurd s
 spends old new e h r (Spends q) s was set is since = record {
@@ -164,7 +164,7 @@ spends old new e h r (Spends q) s was set is since = record {
 }
 spends old new e h r (Breaks q) s was set is since = absurd s
 
-pub kept_spent : (e : Course) (h : Heard) (r : Reader) (t : Turn) (ks : List Kept) (k : Kept) → StepShows step.Spent e h r t → ks ++ k ∷ [] ≡ kept_after ks r t k
+pub kept_spent : (e : Course) (h : ReadBlock) (r : Reader) (t : Turn) (ks : List Kept) (k : Kept) → StepShows step.Spent e h r t → ks ++ k ∷ [] ≡ kept_after ks r t k
 kept_spent e h r (Asks q) ks k s = absurd s
 kept_spent e h r (Gives response q) ks k s = absurd s
 kept_spent e h r (Spends q) ks k s = refl
@@ -218,26 +218,26 @@ begun old new command a set alike rest rules es stands =
     )
 
 -- an exchange was heard
-heard_at : (old new : Held) (h : Hearing) (t : Turn) (ks : List Kept) → is_open old ≡ true → ((r : Reader) → Asking old r → StandsAt new (turn_on old.set r h)) → ((r : Reader) → Asking old r → new.since ≡ kept_after old.since r (turn_on old.set r h) (exchange_of old.set r h)) → StandsAt old t → old.since ≡ ks → StandsWith new (then_stands old.set t ks (Hears h))
+heard_at : (old new : Held) (h : Heard) (t : Turn) (ks : List Kept) → is_open old ≡ true → ((r : Reader) → Asking old r → StandsAt new (turn_on old.set r h)) → ((r : Reader) → Asking old r → new.since ≡ kept_after old.since r (turn_on old.set r h) (exchange_of old.set r h)) → StandsAt old t → old.since ≡ ks → StandsWith new (then_stands old.set t ks (Hears h))
 heard_at old new h (Asks r) ks on rules keeps s is = record { turn = rules r s; kept = keeps r s ∙ ap (λ (l : List Kept). kept_after l r (turn_on old.set r h) (exchange_of old.set r h)) is }
 heard_at old new h (Gives response r) ks on rules keeps s is = absurd (clash (is_resting old) s.resting (open_rests old.course.stage on))
 heard_at old new h (Spends r) ks on rules keeps s is = absurd (clash (is_open old) on (failed_closed old.course.stage s.failed).0)
 heard_at old new h (Breaks r) ks on rules keeps s is = absurd (clash (is_open old) on (failed_closed old.course.stage s.failed).0)
 
-pub heard_on : (old new : Held) (h : Hearing) → new.set ≡ old.set → is_open old ≡ true → ((r : Reader) → Asking old r → StandsAt new (turn_on old.set r h)) → ((r : Reader) → Asking old r → new.since ≡ kept_after old.since r (turn_on old.set r h) (exchange_of old.set r h)) → (es : List LinkEvent) → StandsFor old es → StandsFor new (es ++ Hears h ∷ [])
+pub heard_on : (old new : Held) (h : Heard) → new.set ≡ old.set → is_open old ≡ true → ((r : Reader) → Asking old r → StandsAt new (turn_on old.set r h)) → ((r : Reader) → Asking old r → new.since ≡ kept_after old.since r (turn_on old.set r h) (exchange_of old.set r h)) → (es : List LinkEvent) → StandsFor old es → StandsFor new (es ++ Hears h ∷ [])
 heard_on old new h set on rules keeps es stands =
     let st = standing_after old.set es in
     let now : standing_after new.set (es ++ Hears h ∷ []) ≡ then_link old.set st (Hears h) = ap (λ (l : LinkSetting). standing_after l (es ++ Hears h ∷ [])) set ∙ standing_after-append old.set es (Hears h) in
     subst (StandsWith new) (sym now) (heard_at old new h st.turn st.kept on rules keeps stands.turn stands.kept)
 
 -- and the answer is that of the turn
-said_at : (old : Held) (h : Hearing) (result : Next) (t : Turn) (ks : List Kept) → is_open old ≡ true → ((r : Reader) → Asking old r → Says result old.set h (turn_on old.set r h)) → StandsAt old t → Says result old.set h (then_stands old.set t ks (Hears h)).turn
+said_at : (old : Held) (h : Heard) (result : Next) (t : Turn) (ks : List Kept) → is_open old ≡ true → ((r : Reader) → Asking old r → Says result old.set h (turn_on old.set r h)) → StandsAt old t → Says result old.set h (then_stands old.set t ks (Hears h)).turn
 said_at old h result (Asks r) ks on says s = says r s
 said_at old h result (Gives response r) ks on says s = absurd (clash (is_resting old) s.resting (open_rests old.course.stage on))
 said_at old h result (Spends r) ks on says s = absurd (clash (is_open old) on (failed_closed old.course.stage s.failed).0)
 said_at old h result (Breaks r) ks on says s = absurd (clash (is_open old) on (failed_closed old.course.stage s.failed).0)
 
-pub said_on : (old : Held) (h : Hearing) (result : Next) → is_open old ≡ true → ((r : Reader) → Asking old r → Says result old.set h (turn_on old.set r h)) → (es : List LinkEvent) → StandsFor old es → Says result old.set h (standing_after old.set (es ++ Hears h ∷ [])).turn
+pub said_on : (old : Held) (h : Heard) (result : Next) → is_open old ≡ true → ((r : Reader) → Asking old r → Says result old.set h (turn_on old.set r h)) → (es : List LinkEvent) → StandsFor old es → Says result old.set h (standing_after old.set (es ++ Hears h ∷ [])).turn
 said_on old h result on says es stands =
     let st = standing_after old.set es in
     subst (λ (x : Standing). Says result old.set h x.turn) (sym (standing_after-append old.set es (Hears h))) (said_at old h result st.turn st.kept on says stands.turn)

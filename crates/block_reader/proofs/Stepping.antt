@@ -5,10 +5,10 @@ use Rattle.std.specs.Prelude.{nat_lt}
 use Rattle.std.proofs.lemmas.List.{append-nil, take-append-drop}
 use Rattle.std.proofs.Math.ListN.{drop_of_length-le}
 use Rattle.std.proofs.lemmas.Bool.Decides.{leb_tells}
-use Rattle.ep_base.specs.Block.{I, RAck, RNak, Deselect, Wtx, Heard, Bad, Junk, Intact, other, same}
-use Rattle.ep_base.specs.Parts.{Cut, cut, more}
-use Rattle.ep_base.specs.ReaderEnd as Rules
-use Rattle.ep_base.specs.ReaderEnd.{Idle, Sending, Receiving, question, asked, Asks, Gives, Spends, Breaks, kept, toggled, on_ack, on_i, takes, reader_hears}
+use Rattle.ep_base.specs.Link.Block.{I, RAck, RNak, Deselect, Wtx, ReadBlock, Bad, Junk, Intact, other, same}
+use Rattle.ep_base.specs.Link.Parts.{Cut, cut, more}
+use Rattle.ep_base.specs.Link.ReaderEnd as Rules
+use Rattle.ep_base.specs.Link.ReaderEnd.{Idle, Sending, Receiving, question, asked, Asks, Gives, Spends, Breaks, kept, toggled, on_ack, on_i, takes, reader_hears}
 use Rattle.block_reader.specs.declared.stages.Stage.TheVariants as stage
 use Rattle.block_reader.specs.declared.stages.Stage.{Stage}
 use Rattle.block_reader.specs.declared.stages.Question.TheVariants as ask
@@ -63,7 +63,7 @@ IsSending (Sending part left) = Unit {0}
 IsSending (Receiving got) = ⊥
 
 -- an R(NAK) is sent in a command alone
-nak_sends : (n : Bool) (phase : Rules.Phase) (s : List Heard) → question n phase s ≡ RNak n → IsSending phase
+nak_sends : (n : Bool) (phase : Rules.Phase) (s : List ReadBlock) → question n phase s ≡ RNak n → IsSending phase
 nak_sends n Idle s e = cc
 nak_sends n (Sending part left) s e = tt
 nak_sends n (Receiving got) [] e = cc
@@ -140,7 +140,7 @@ early_part e number ch inf frame wide eq lt sends r a =
 -- the same, with no part left
 pub first_part : (e new : Course) (next : Step) (number ch : Bool) (inf : List ℕ) (frame : ℕ) → not (beq number e.number) ≡ false → length e.command ≤ e.place + (e.card_frame - 3) → e.stage ≡ stage.Sending → ((r : Rules.Reader) → Sends e r → StepShows next new (Intact (I number ch inf)) r (takes frame e.got ch inf r)) → (r : Rules.Reader) → Sends e r → StepShows next new (Intact (I number ch inf)) r (reader_hears frame r (Intact (I number ch inf)))
 first_part e new next number ch inf frame eq le sends took r a =
-    let heard : Heard = Intact (I number ch inf) in
+    let heard : ReadBlock = Intact (I number ch inf) in
     let alike : same number r.number ≡ true = rw a.state.number (same_true number e.number (alike_by number e.number eq)) in
     let phase : r.phase ≡ Sending (drop e.place e.command) [] = a.state.phase ∙ ap (λ (p : Stage). phase_by p (e.card_frame - 3) e.command e.place e.got) sends ∙ ap (λ (c : Cut). Sending c.first c.others) (cut_at_last (e.card_frame - 3) e.place e.command le) in
     let none : e.got ≡ [] = subst (λ (p : Stage). NoneGot p e.got) sends a.state.fresh in

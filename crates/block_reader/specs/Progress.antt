@@ -1,8 +1,8 @@
 -- When the progress of a command stands for a state of the rules (this project's own).
 use Rattle.std.specs.Prelude.{◌≡◌, ℕ, ◌+◌, ◌-◌, ◌<◌, ◌≤◌, nat_lt, Bool, true, false, List, [], length, take, drop}
-use Rattle.ep_base.specs.Block.{Block, I, RAck, RNak, Wtx, Heard, other, is_bad, is_wtx, count}
-use Rattle.ep_base.specs.Parts.{cut}
-use Rattle.ep_base.specs.ReaderEnd as rules
+use Rattle.ep_base.specs.Link.Block.{Block, I, RAck, RNak, Wtx, ReadBlock, other, is_bad, is_wtx, count}
+use Rattle.ep_base.specs.Link.Parts.{cut}
+use Rattle.ep_base.specs.Link.ReaderEnd as rules
 use Rattle.block_reader.specs.declared.progress.Progress.{Progress}
 use Rattle.block_reader.specs.declared.stages.Stage.{Stage}
 use Rattle.block_reader.specs.declared.stages.Stage.TheVariants as stage
@@ -99,7 +99,7 @@ pub record Sends (e : Course) (r : rules.Reader) : Type 0 where
   pub few : (e.bad < 3) × (e.wtx ≤ 16)
 
 -- Where a step leads from a reader at this hearing.
-pub record Goes (e : Course) (h : Heard) (r q : rules.Reader) : Type 0 where
+pub record Goes (e : Course) (h : ReadBlock) (r q : rules.Reader) : Type 0 where
   pub sends : Sends e q
   pub same : q ≡ rules.kept h r
 
@@ -117,7 +117,7 @@ pub record Ends (e : Course) (response : List ℕ) (r q : rules.Reader) : Type 0
   pub fresh : q.since ≡ []
 
 -- The link is spent with this hearing (this project's own).
-pub record Fails (e : Course) (h : Heard) (r q : rules.Reader) : Type 0 where
+pub record Fails (e : Course) (h : ReadBlock) (r q : rules.Reader) : Type 0 where
   pub same : q ≡ rules.kept h r
   pub number : q.number ≡ e.number
   pub bad : e.bad ≡ count is_bad q.since
@@ -129,7 +129,7 @@ pub record Breaks (e : Course) (r q : rules.Reader) : Type 0 where
   pub state : IsAt e q
 
 -- A step is what the reader's table says of this hearing (this project's own).
-abbrev pub StepShows : Step → Course → Heard → rules.Reader → rules.Turn → Type 0
+abbrev pub StepShows : Step → Course → ReadBlock → rules.Reader → rules.Turn → Type 0
 StepShows step.Again e h r (rules.Asks q) = Goes e h r q
 StepShows step.Toggled e h r (rules.Asks q) = Toggles e r q
 StepShows step.Done e h r (rules.Gives response q) = Ends e response r q

@@ -1,11 +1,11 @@
 -- What a hearing says, as the rules see it (this project's own).
-use Rattle.ep_base.specs.Block.{Heard, Bad, Junk, Intact}
+use Rattle.ep_base.specs.Link.Block.{ReadBlock, Bad, Junk, Intact}
 use Rattle.block_pcb.specs.Meaning.{block_of, InRange}
 use Rattle.block_reader.specs.declared.hearing.Said.{Said}
 use Rattle.block_reader.specs.declared.hearing.Said.TheVariants as said
 
 -- What a hearing says, in plain data (this project's own).
-abbrev pub said_of : Said → Heard
+abbrev pub said_of : Said → ReadBlock
 said_of said.Bad = Bad
 said_of said.Junk = Junk
 said_of (said.Intact block) = Intact (block_of block)

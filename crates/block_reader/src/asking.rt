@@ -1,9 +1,9 @@
 //! The blocks that a reader's end sends.
 ghost use Rattle.std.specs.Prelude.{◌≡◌, ◌≤◌, true, []};
 ghost use Rattle.arrayvec.specs.ArrayVec.{array_vec_len};
-ghost use Rattle.ep_base.specs.Apdu.{is_command};
-ghost use Rattle.ep_base.specs.LinkFrames.{block_ask, block_frame, wait_of};
-ghost use Rattle.ep_base.specs.ReaderEnd as rules;
+ghost use Rattle.ep_base.specs.Cards.Apdu.{is_command};
+ghost use Rattle.ep_base.specs.Link.LinkFrames.{block_ask, block_frame, wait_of};
+ghost use Rattle.ep_base.specs.Link.ReaderEnd as rules;
 ghost use Rattle.block_pcb.specs.Meaning.{block_of, InRange};
 ghost use Rattle.block_reader.specs.Counts.{is_open, spare, IsLawful};
 ghost use Rattle.block_reader.specs.Progress.{block_due, block_from, carried, course, IsAt, Keeps, Sends};

@@ -1,7 +1,7 @@
 //! What a breach shows.
 ghost use Rattle.std.specs.Prelude.{◌≡◌};
-ghost use Rattle.ep_base.specs.LinkFrames.{frame_heard as bytes_heard, phase_shown};
-ghost use Rattle.ep_base.specs.ReaderEnd.{Reader};
+ghost use Rattle.ep_base.specs.Link.LinkFrames.{frame_heard as bytes_heard, phase_shown};
+ghost use Rattle.ep_base.specs.Link.ReaderEnd.{Reader};
 ghost use Rattle.rf_frame.specs.Meaning.{heard_of};
 ghost use Rattle.block_reader.specs.Progress.{course, IsAt};
 ghost use Rattle.block_reader.specs.Follows.{breach_in};

@@ -19,7 +19,7 @@ pub struct Breach {
 }
 
 impl Model for Breach {
-    ghost use Rattle.ep_base.specs.LinkFrames.{BreachData};
+    ghost use Rattle.ep_base.specs.Link.LinkFrames.{BreachData};
 
     ghost Value = { BreachData };
 
@@ -76,7 +76,7 @@ pub struct Kept {
 }
 
 impl Model for Kept {
-    ghost use Rattle.ep_base.specs.LinkFrames.{Kept};
+    ghost use Rattle.ep_base.specs.Link.LinkFrames.{Kept};
     ghost use Rattle.rf_frame.specs.Meaning.{heard_of};
 
     ghost Value = { Kept };

@@ -1,7 +1,7 @@
 //! What a hearing says, as the rules of the block protocol see it.
 ghost use Rattle.std.specs.Prelude.{◌≡◌};
-ghost use Rattle.ep_base.specs.Hearing.{wave_of_kind};
-ghost use Rattle.ep_base.specs.LinkFrames.{heard_block};
+ghost use Rattle.ep_base.specs.Air.Heard.{wave_of_kind};
+ghost use Rattle.ep_base.specs.Link.LinkFrames.{heard_block};
 ghost use Rattle.rf_frame.specs.Meaning.{heard_of};
 ghost use Rattle.block_reader.specs.Said.{said_of, SaysInRange};
 

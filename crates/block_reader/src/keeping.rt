@@ -1,7 +1,7 @@
 //! The exchanges that a reader's end keeps.
 ghost use Rattle.std.specs.Prelude.{◌≡◌, ◌<◌, ◌+◌, ◌++◌, [], ◌∷◌};
 ghost use Rattle.arrayvec.specs.ArrayVec.{array_vec_len};
-ghost use Rattle.ep_base.specs.LinkFrames.{block_frame};
+ghost use Rattle.ep_base.specs.Link.LinkFrames.{block_frame};
 ghost use Rattle.rf_frame.specs.Meaning.{heard_of};
 ghost use Rattle.block_reader.specs.Counts.{IsLawful};
 ghost use Rattle.block_reader.specs.Progress.{block_from, carried, course};

@@ -1,8 +1,8 @@
 //! What each hearing leads to while a command is open.
 ghost use Rattle.std.specs.Prelude.{◌≡◌, ◌≤◌, ◌&&◌, ℕ, nat_le, true, false};
 ghost use Rattle.arrayvec.specs.ArrayVec.{array_vec_len};
-ghost use Rattle.ep_base.specs.Block as rule;
-ghost use Rattle.ep_base.specs.ReaderEnd as rules;
+ghost use Rattle.ep_base.specs.Link.Block as rule;
+ghost use Rattle.ep_base.specs.Link.ReaderEnd as rules;
 ghost use Rattle.block_reader.specs.Counts.{ahead, AheadAfter, Counted, CountsAfter, is_open};
 ghost use Rattle.block_reader.specs.Progress.{course, is_spent, IsWhole, Keeps, Repeats, Sends, StepShows};
 ghost use Rattle.block_reader.specs.Said.{said_of, SaysInRange};

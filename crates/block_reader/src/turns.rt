@@ -1,14 +1,14 @@
 //! A reader's end: how a command begins, what a hearing leads to, and how the link is closed.
 ghost use Rattle.std.specs.Prelude.{◌≡◌, ◌≤◌, ◌<◌, ◌++◌, ◌&&◌, nat_le, [], ◌∷◌, true, List, length};
-ghost use Rattle.ep_base.specs.Apdu.{is_command};
-ghost use Rattle.ep_base.specs.Block.{is_bad, Deselect};
-ghost use Rattle.ep_base.specs.Dialogue.{block_of, opened};
-ghost use Rattle.ep_base.specs.FrameSize as sizes;
-ghost use Rattle.ep_base.specs.ReaderEnd.{Reader, asked, begin as begun};
-ghost use Rattle.ep_base.specs.Spelling.{number_bit};
-ghost use Rattle.ep_base.specs.LinkFrames.{block_ask, heard_block};
-ghost use Rattle.ep_base.specs.LinkEvents.{Begins, Hears, LinkEvent, exchange_of, kept_after, standing_after};
-ghost use Rattle.ep_base.specs.Carry.{turn_on};
+ghost use Rattle.ep_base.specs.Cards.Apdu.{is_command};
+ghost use Rattle.ep_base.specs.Link.Block.{is_bad, Deselect};
+ghost use Rattle.ep_base.specs.Link.Dialogue.{block_of, opened};
+ghost use Rattle.ep_base.specs.Air.FrameSize as sizes;
+ghost use Rattle.ep_base.specs.Link.ReaderEnd.{Reader, asked, begin as begun};
+ghost use Rattle.ep_base.specs.Link.Spelling.{number_bit};
+ghost use Rattle.ep_base.specs.Link.LinkFrames.{block_ask, heard_block};
+ghost use Rattle.ep_base.specs.Link.LinkEvents.{Begins, Hears, LinkEvent, exchange_of, kept_after, standing_after};
+ghost use Rattle.ep_base.specs.Link.Carry.{turn_on};
 ghost use Rattle.rf_frame.specs.Meaning.{heard_of};
 ghost use Rattle.block_reader.specs.Follows.{next_of, HasWhole};
 ghost use Rattle.block_reader.specs.Progress.{block_due};

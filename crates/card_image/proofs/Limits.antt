@@ -4,7 +4,7 @@ use Rattle.std.specs.declared.option.Option.{Option}
 use Rattle.std.specs.List.{starts_with}
 use Rattle.std.proofs.lemmas.Option.{slice_get_within, get_or_from_slice_get}
 use Rattle.std.proofs.lemmas.List.Elements.{All-set}
-use Rattle.ep_base.specs.CardAnswer.{Answers, Rule, App, AreAnswers, IsRule, IsApp, used_once, rule_used, app_selected, app_with, by_rule, by_rule_place, app_executes}
+use Rattle.ep_base.specs.Cards.CardAnswer.{Answers, Rule, App, AreAnswers, IsRule, IsApp, used_once, rule_used, app_selected, app_with, by_rule, by_rule_place, app_executes}
 
 pub used_keeps : (a : Answers) → AreAnswers a → AreAnswers (used_once a)
 used_keeps a h = record { each = h.each; few = h.few; given = omega arith }

@@ -5,8 +5,8 @@ use Rattle.std.specs.Option.{ForSome}
 use Rattle.std.proofs.lemmas.Option.{slice_get-get_or}
 use Rattle.std.proofs.lemmas.List.Elements.{All-set}
 use Rattle.std.proofs.lemmas.List.Quantifiers.{position-Some}
-use Rattle.ep_base.specs.Apdu.{same_bytes, is_9000}
-use Rattle.ep_base.specs.CardAnswer.{Image, App, Answered, IsApp, IsImage, app_answer, app_selected, app_executes, with_app, other_answer, select_answer}
+use Rattle.ep_base.specs.Cards.Apdu.{same_bytes, is_9000}
+use Rattle.ep_base.specs.Cards.CardAnswer.{Image, App, Answered, IsApp, IsImage, app_answer, app_selected, app_executes, with_app, other_answer, select_answer}
 
 -- the image with another application at a place
 pub with_app_keeps : (i : Image) (n : ℕ) (a : App) (selected : Option ℕ) → IsImage i → IsApp a → ForSome selected (λ k. k < length i.apps)

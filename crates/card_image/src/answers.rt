@@ -1,6 +1,6 @@
 //! Responses that are given in turn.
 ghost use Rattle.std.specs.Prelude.{◌≡◌, ◌==◌, ◌≤◌, ◌<◌, [], length};
-ghost use Rattle.ep_base.specs.CardAnswer.{unused, next_answer, used_once};
+ghost use Rattle.ep_base.specs.Cards.CardAnswer.{unused, next_answer, used_once};
 
 use apdu::Response;
 use std::marker::Model;
@@ -13,7 +13,7 @@ pub(crate) struct Answers {
 }
 
 impl Model for Answers {
-    ghost use Rattle.ep_base.specs.CardAnswer.{Answers};
+    ghost use Rattle.ep_base.specs.Cards.CardAnswer.{Answers};
 
     ghost Value = { Answers };
 

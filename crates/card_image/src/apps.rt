@@ -1,7 +1,7 @@
 //! Applications and their rules, as they are handed in and with their counts.
 ghost use Rattle.std.specs.Prelude.{◌≡◌, ◌≤◌, ◌<◌, length, position, nat_eq, IfOk, IfSome, IfNone};
 ghost use Rattle.std.specs.List.{starts_with};
-ghost use Rattle.ep_base.specs.CardAnswer.{IsRule, IsApp, IsAnswer, rule_answer, rule_used, app_answer, app_selected, app_executes};
+ghost use Rattle.ep_base.specs.Cards.CardAnswer.{IsRule, IsApp, IsAnswer, rule_answer, rule_used, app_answer, app_selected, app_executes};
 
 use crate::answers::Answers;
 use crate::image::{Answered, UNKNOWN_INSTRUCTION, plain};
@@ -24,7 +24,7 @@ pub struct Rule {
 }
 
 impl Model for Rule {
-    ghost use Rattle.ep_base.specs.CardAnswer.{Rule, unused};
+    ghost use Rattle.ep_base.specs.Cards.CardAnswer.{Rule, unused};
 
     ghost Value = { Rule };
 
@@ -47,7 +47,7 @@ pub struct App {
 }
 
 impl Model for App {
-    ghost use Rattle.ep_base.specs.CardAnswer.{App, unused};
+    ghost use Rattle.ep_base.specs.Cards.CardAnswer.{App, unused};
 
     ghost Value = { App };
 
@@ -64,7 +64,7 @@ pub(crate) struct CountedRule {
 }
 
 impl Model for CountedRule {
-    ghost use Rattle.ep_base.specs.CardAnswer.{Rule};
+    ghost use Rattle.ep_base.specs.Cards.CardAnswer.{Rule};
 
     ghost Value = { Rule };
 
@@ -115,7 +115,7 @@ pub(crate) struct CountedApp {
 }
 
 impl Model for CountedApp {
-    ghost use Rattle.ep_base.specs.CardAnswer.{App};
+    ghost use Rattle.ep_base.specs.Cards.CardAnswer.{App};
 
     ghost Value = { App };
 

@@ -1,8 +1,8 @@
 //! A card's image.
 ghost use Rattle.std.specs.Prelude.{◌≡◌, ◌<◌, ◌∷◌, [], ◌++◌, length, position, Some, None, if◌then◌else◌, IfOk};
 ghost use Rattle.std.specs.Option.{option_copied};
-ghost use Rattle.ep_base.specs.Apdu.{same_bytes, command_data};
-ghost use Rattle.ep_base.specs.CardAnswer.{IsImage, IsAnswer, new_image, plain, deselected, is_select, ppse_answer, select_answer, other_answer, card_answer};
+ghost use Rattle.ep_base.specs.Cards.Apdu.{same_bytes, command_data};
+ghost use Rattle.ep_base.specs.Cards.CardAnswer.{IsImage, IsAnswer, new_image, plain, deselected, is_select, ppse_answer, select_answer, other_answer, card_answer};
 
 use crate::answers::Answers;
 use crate::apps::{App, CountedApp, counted_apps};
@@ -34,7 +34,7 @@ pub struct Answered {
 
 impl Model for Answered {
     ghost use Rattle.std.specs.Prelude.{◌≤◌};
-    ghost use Rattle.ep_base.specs.CardAnswer.{Answered};
+    ghost use Rattle.ep_base.specs.Cards.CardAnswer.{Answered};
 
     ghost Value = { Answered };
 
@@ -65,7 +65,7 @@ pub struct CardImage {
 }
 
 impl Model for CardImage {
-    ghost use Rattle.ep_base.specs.CardAnswer.{Image, IsImage};
+    ghost use Rattle.ep_base.specs.Cards.CardAnswer.{Image, IsImage};
 
     ghost Value = { Image };
 
@@ -127,7 +127,7 @@ impl CardImage {
         self.selected = None;
     }
 
-    #[tactic(auto, unfolding(ep_base::specs::CardAnswer::card_answer))]
+    #[tactic(auto, unfolding(ep_base::specs::Cards::CardAnswer::card_answer))]
     fn reply(&mut self, command: &Command) -> Answered
         ensures { (result, self.new) ≡ card_answer self.old command.now }
     {
@@ -191,7 +191,7 @@ fn place_of_app(apps: &[CountedApp], name: &[u8]) -> Option<usize>
 }
 
 // The name in a SELECT by name with data.
-#[tactic(auto, unfolding(ep_base::specs::Apdu::is_command, ep_base::specs::Apdu::command_data))]
+#[tactic(auto, unfolding(ep_base::specs::Cards::Apdu::is_command, ep_base::specs::Cards::Apdu::command_data))]
 fn selected_name(command: &Command) -> Option<&[u8]>
     ensures { option_copied result ≡ (if is_select command.now then Some (command_data command.now) else None) }
 {

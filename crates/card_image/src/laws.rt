@@ -1,6 +1,6 @@
 //! What holds of every image, whatever it is asked.
 ghost use Rattle.std.specs.Prelude.{ℕ, List};
-ghost use Rattle.ep_base.specs.CardAnswer.{Image, IsImage, IsAnswer, card_answer, deselected};
+ghost use Rattle.ep_base.specs.Cards.CardAnswer.{Image, IsImage, IsAnswer, card_answer, deselected};
 
 /// An image within its limits answers each command within the limits, and stays within its own.
 pub fn stays_within_limits()

@@ -1,6 +1,6 @@
 //! A card that is asked for its directory, its application, and what a rule answers.
 ghost use Rattle.std.specs.Prelude.{◌≡◌, ◌≤◌, ◌∷◌, [], length, IfOk};
-ghost use Rattle.ep_base.specs.CardAnswer.{IsResponse, AreAnswers, IsRule, IsApp, unused};
+ghost use Rattle.ep_base.specs.Cards.CardAnswer.{IsResponse, AreAnswers, IsRule, IsApp, unused};
 
 use crate::{App, CardImage, CardLog, Rule};
 use apdu::{Command, Response};

@@ -2,7 +2,7 @@
 use Rattle.std.proofs.Common.{◌≡◌, ℕ, ◌≤◌, ◌<◌, List, [], length, codes, Ok, subst, arith}
 use Rattle.std.specs.Prelude.{All}
 use Rattle.std.proofs.lemmas.List.Elements.{All-nil}
-use Rattle.ep_base.specs.CardAnswer.{Rule, App, unused, new_image, IsResponse, AreAnswers, IsRule, IsApp, IsImage}
+use Rattle.ep_base.specs.Cards.CardAnswer.{Rule, App, unused, new_image, IsResponse, AreAnswers, IsRule, IsApp, IsImage}
 use Rattle.doc_table.specs.declared.list.ElementKind.TheVariants as elements
 use Rattle.doc_table.specs.Read.{Place, list_of, integer_in, byte_text, table_of, required, defaulted}
 use Rattle.doc_table.proofs.Accepted.{Accepts, after, accepted_integer, accepted_bytes, accepted_required, accepted_defaulted, accepted_list}

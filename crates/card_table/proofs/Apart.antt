@@ -5,8 +5,8 @@ use Rattle.std.proofs.lemmas.Slice.Eq.{bytes_eq-Decides}
 use Rattle.std.specs.Str.{bytes_eq}
 use Rattle.ep_base.specs.declared.air.CardKind.{CardKind}
 use Rattle.ep_base.specs.declared.air.CardKind.TheVariants.{A, B}
-use Rattle.ep_base.specs.Hearing.{same_kind}
-use Rattle.law_round.specs.Lawful.{kind_of, id_of, IsApart, AreApart}
+use Rattle.ep_base.specs.Air.Heard.{same_kind}
+use Rattle.ep_base.specs.Cards.Lawful.{kind_of, id_of, IsApart, AreApart}
 use Rattle.doc_table.proofs.Accepted.{after}
 use Rattle.card_table.specs.Cards.{Card, is_same, is_new, all_new}
 

@@ -1,7 +1,7 @@
 -- UIDs and PUPIs by their bytes.
 use Rattle.std.proofs.Common.{◌≡◌, ℕ, ◌==◌, ◌||◌, ◌⊎◌, not, List, [], ◌∷◌, length, Bool, true, false, refl, arith}
 use Rattle.std.proofs.lemmas.Bool.Decides.{nat_tests}
-use Rattle.law_round.specs.Lawful.{IsUid, Four, Seven, Ten, IsFour, Bytes}
+use Rattle.ep_base.specs.Cards.Lawful.{IsUid, Four, Seven, Ten, IsFour, Bytes}
 use Rattle.card_table.specs.Cards.{is_uid}
 
 -- A test that fails, where it passes or nothing else does.

@@ -3,10 +3,10 @@ use Rattle.std.proofs.Common.{◌≡◌, ℕ, ◌+◌, ◌<◌, List, [], ◌∷
 use Rattle.std.specs.Prelude.{All}
 use Rattle.std.proofs.lemmas.List.Elements.{All-head, All-tail}
 use Rattle.ep_base.specs.declared.air.CardKind.{CardKind}
-use Rattle.ep_base.specs.CardAnswer.{Image, new_image, IsImage}
-use Rattle.ep_base.specs.Field.{Outside, OfA, OfB}
-use Rattle.law_round.specs.Lawful.{IsFormed, kind_of, id_of, IsPlaced, ArePlaced, names}
-use Rattle.law_radio.specs.OverRadio.{numbers, IsOther, AreDistinct}
+use Rattle.ep_base.specs.Cards.CardAnswer.{Image, new_image, IsImage}
+use Rattle.ep_base.specs.Cards.Field.{Outside, OfA, OfB}
+use Rattle.ep_base.specs.Cards.Lawful.{IsFormed, kind_of, id_of, IsPlaced, ArePlaced, names}
+use Rattle.ep_base.specs.Cards.Numbers.{numbers, IsOther, AreDistinct}
 use Rattle.card_table.specs.Cards.{Card, IsCard}
 use Rattle.card_table.specs.Placing.{placed_as, placed, placed_from}
 use Rattle.card_table.proofs.Apart.{card_name}

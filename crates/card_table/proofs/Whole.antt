@@ -3,12 +3,12 @@ use Rattle.std.proofs.Common.{◌≡◌, ℕ, ◌≤◌, ◌<◌, List, [], ◌�
 use Rattle.std.specs.Prelude.{IfOk, slice_index}
 use Rattle.ep_base.specs.declared.air.CardKind.{CardKind}
 use Rattle.ep_base.specs.declared.air.CardKind.TheVariants.{A, B}
-use Rattle.ep_base.specs.CardAnswer.{App}
-use Rattle.ep_base.specs.Field.{OfA, OfB}
-use Rattle.ep_base.specs.TypeA.{Idle}
-use Rattle.ep_base.specs.TypeB.{BIdle}
+use Rattle.ep_base.specs.Cards.CardAnswer.{App}
+use Rattle.ep_base.specs.Cards.Field.{OfA, OfB}
+use Rattle.ep_base.specs.Cards.TypeA.{Idle}
+use Rattle.ep_base.specs.Cards.TypeB.{BIdle}
 use Rattle.toml.specs.Data.{Data, as_table}
-use Rattle.law_round.specs.Lawful.{AreApart, names}
+use Rattle.ep_base.specs.Cards.Lawful.{AreApart, names}
 use Rattle.doc_table.specs.declared.list.ElementKind.TheVariants as elements
 use Rattle.doc_table.specs.declared.fault.TableEnd.{TableEnd}
 use Rattle.doc_table.specs.Read.{Place, GivesIfRoom, of_kind, list_of, integer_in, truth, byte_text, table_of, required, defaulted}

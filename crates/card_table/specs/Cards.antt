@@ -5,16 +5,16 @@ use Rattle.std.specs.Str.{bytes_eq}
 use Rattle.toml.specs.Data.{as_str, as_table}
 use Rattle.ep_base.specs.declared.air.CardKind.{CardKind}
 use Rattle.ep_base.specs.declared.air.CardKind.TheVariants.{A, B}
-use Rattle.ep_base.specs.Activation.{bit}
-use Rattle.ep_base.specs.Apdu.{same_bytes}
-use Rattle.ep_base.specs.CardAnswer.{Rule, App, unused, new_image, IsImage}
-use Rattle.ep_base.specs.Field.{Outside, OfA, OfB}
-use Rattle.ep_base.specs.Hearing.{same_kind}
-use Rattle.ep_base.specs.TypeA.{Idle}
-use Rattle.ep_base.specs.TypeB.{BIdle}
+use Rattle.ep_base.specs.Cards.Activation.{bit}
+use Rattle.ep_base.specs.Cards.Apdu.{same_bytes}
+use Rattle.ep_base.specs.Cards.CardAnswer.{Rule, App, unused, new_image, IsImage}
+use Rattle.ep_base.specs.Cards.Field.{Outside, OfA, OfB}
+use Rattle.ep_base.specs.Air.Heard.{same_kind}
+use Rattle.ep_base.specs.Cards.TypeA.{Idle}
+use Rattle.ep_base.specs.Cards.TypeB.{BIdle}
 use Rattle.type_a.specs.Plan as TypeA
 use Rattle.type_b.specs.Card as TypeB
-use Rattle.law_round.specs.Lawful.{IsFormed, kind_of, id_of}
+use Rattle.ep_base.specs.Cards.Lawful.{IsFormed, kind_of, id_of}
 use Rattle.doc_table.specs.Fault.{Fault}
 use Rattle.doc_table.specs.Path.{key_path, element_path}
 use Rattle.doc_table.specs.declared.fault.DocKind.TheVariants.{Conflict}

@@ -1,7 +1,7 @@
 -- What the plan of a card stands for in plain data (this project's own).
-use Rattle.ep_base.specs.Field.{Outside, OfA, OfB}
-use Rattle.ep_base.specs.TypeA.{Idle}
-use Rattle.ep_base.specs.TypeB.{BIdle}
+use Rattle.ep_base.specs.Cards.Field.{Outside, OfA, OfB}
+use Rattle.ep_base.specs.Cards.TypeA.{Idle}
+use Rattle.ep_base.specs.Cards.TypeB.{BIdle}
 use Rattle.type_b.specs.Card.{plan_of}
 use Rattle.card_table.specs.declared.type_plan.TypePlan.{TypePlan}
 use Rattle.card_table.specs.declared.type_plan.TypePlan.TheVariants.{A, B}

@@ -1,9 +1,9 @@
 -- The cards of a document in a field, by their numbers (this project's own).
 use Rattle.std.specs.Prelude.{ℕ, ◌+◌, ◌≤◌, List, [], ◌∷◌, length}
-use Rattle.ep_base.specs.CardAnswer.{Image, new_image}
-use Rattle.ep_base.specs.Field.{Outside, OfA, OfB, Placed, placed_a, placed_b}
-use Rattle.law_round.specs.Lawful.{ArePlaced, names, AreApart}
-use Rattle.law_radio.specs.OverRadio.{numbers, AreDistinct}
+use Rattle.ep_base.specs.Cards.CardAnswer.{Image, new_image}
+use Rattle.ep_base.specs.Cards.Field.{Outside, OfA, OfB, Placed, placed_a, placed_b}
+use Rattle.ep_base.specs.Cards.Lawful.{ArePlaced, names, AreApart}
+use Rattle.ep_base.specs.Cards.Numbers.{numbers, AreDistinct}
 use Rattle.card_table.specs.Cards.{Card}
 
 -- A card with this image before the first reset of its field (this project's own).

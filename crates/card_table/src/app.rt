@@ -47,7 +47,7 @@ impl Read for ResponseText {
 pub struct RuleTable;
 
 impl Read for RuleTable {
-    ghost use Rattle.ep_base.specs.CardAnswer.{Rule as RuleData};
+    ghost use Rattle.ep_base.specs.Cards.CardAnswer.{Rule as RuleData};
     ghost use Rattle.card_table.specs.Cards.{rule};
 
     type Out = Rule;
@@ -89,7 +89,7 @@ fn rule_at(alloc: Global, section: &Section) -> Result<Rule, TableEnd>
 pub struct AppTable;
 
 impl Read for AppTable {
-    ghost use Rattle.ep_base.specs.CardAnswer.{App as AppData};
+    ghost use Rattle.ep_base.specs.Cards.CardAnswer.{App as AppData};
     ghost use Rattle.card_table.specs.Cards.{app};
 
     type Out = App;

@@ -1,8 +1,8 @@
 //! The cards of a transaction.
 ghost use Rattle.std.specs.Prelude.{◌≡◌, ◌+◌, ◌≤◌, [], length, position, IfOk, IfSome};
 ghost use Rattle.std.specs.Prelude.{◌<◌};
-ghost use Rattle.law_round.specs.Lawful.{ArePlaced, AreApart, names};
-ghost use Rattle.law_radio.specs.OverRadio.{AreDistinct, numbers};
+ghost use Rattle.ep_base.specs.Cards.Lawful.{ArePlaced, AreApart, names};
+ghost use Rattle.ep_base.specs.Cards.Numbers.{AreDistinct, numbers};
 ghost use Rattle.doc_table.specs.Read.{GivesIfRoom};
 ghost use Rattle.doc_table.specs.Path.{key_path, shown};
 ghost use Rattle.doc_table.specs.Section.{place};

@@ -1,13 +1,13 @@
 -- How a session stands after an exchange.
 use Rattle.std.proofs.Common.{◌≡◌, ℕ, Bool, List, [], ◌∷◌, ◌++◌, Option, Some, None, refl, ap, sym, subst, ◌∙◌}
 use Rattle.block_reader.specs.Stands as links
-use Rattle.ep_base.specs.Arena.{Object}
-use Rattle.ep_base.specs.Hearing.{Asked, Hearing, RoundEnd}
-use Rattle.ep_base.specs.Kernel.{KernelSteps}
-use Rattle.ep_base.specs.PreProcessing.{Ready}
-use Rattle.ep_base.specs.Said.{Said}
-use Rattle.ep_base.specs.Talk.{Talk}
-use Rattle.law_lane.specs.Standing.{Doing, Standing, started, after_hearing, asked_by, events_of}
+use Rattle.ep_base.specs.Objects.Arena.{Object}
+use Rattle.ep_base.specs.Air.Heard.{Ask, Heard, RoundEnd}
+use Rattle.ep_rules.specs.EntryPoint.Kernel.{KernelSteps}
+use Rattle.ep_rules.specs.EntryPoint.PreProcessing.{Ready}
+use Rattle.ep_rules.specs.EntryPoint.Event.{Said}
+use Rattle.ep_rules.specs.EntryPoint.Talk.{Talk}
+use Rattle.ep_claim.specs.Lanes.Standing.{Doing, Standing, started, after_hearing, asked_by, events_of}
 use Rattle.session_event.specs.declared.event.End.{End}
 use Rattle.session_event.specs.declared.event.End.TheVariants as ending
 use Rattle.session_phases.specs.Shown.{rounds_of, FailedThen, Fits, FitsThen, IsDone}
@@ -28,7 +28,7 @@ view_at objects link rounds work = record { objects = objects; link = link; roun
 
 module _ {S : Type 0} (k : KernelSteps S) (ones : List Ready) (s : S) (objects : List Object) (opened fresh : Bool) (fsdi : ℕ) (link : Option links.Held) (rounds : List RoundEnd) where
   -- Where another exchange comes.
-  pub asks_stand : (step : Step) (ask : Asked) (talk : Talk) (st : Standing) (said : List Said) → Turned k ones s objects fsdi link (plain.Ask ask step) talk st said
+  pub asks_stand : (step : Step) (ask : Ask) (talk : Talk) (st : Standing) (said : List Said) → Turned k ones s objects fsdi link (plain.Ask ask step) talk st said
       → FitsThen (plain.Ask ask step) rounds → rounds ≡ rounds_of st
       → StandsFor k (view_at objects link rounds (Some (work_at ones s opened fresh fsdi step))) talk fsdi st
   asks_stand step ask talk st said h fits same = record {
@@ -53,7 +53,7 @@ module _ {S : Type 0} (k : KernelSteps S) (ones : List Ready) (s : S) (objects :
   ended_by end talk st said h = record { ending = h.ending; stopped = h.stopped; before = h.before; last = h.said_is ∙ h.last; decided = h.decided }
 
 -- The cause of an end shows after the exchange.
-pub cause_shows : (end : End) (heard : Hearing) (doing : Doing) (rounds : List RoundEnd) (link : Option links.Held) (talk : Talk) (st : Standing) (said : List Said)
+pub cause_shows : (end : End) (heard : Heard) (doing : Doing) (rounds : List RoundEnd) (link : Option links.Held) (talk : Talk) (st : Standing) (said : List Said)
     → FitsThen (plain.Ended end) rounds → FailedThen (plain.Ended end) heard doing link → EndsSo end talk st said → CauseShows end heard doing rounds link (events_of talk st)
 cause_shows ending.Done heard doing rounds link talk st said fits failed h = record { before = h.before; last = h.said_is ∙ h.last; outcome = h.decided }
 cause_shows ending.Link heard doing rounds link talk st said fits failed h = failed

@@ -1,14 +1,14 @@
 -- A session between two exchanges, in plain data, and the standings that it stands for.
 use Rattle.std.specs.Prelude.{◌≡◌, ℕ, Bool, true, false, List, [], ◌∷◌, ◌++◌, Option, Some, None}
 use Rattle.block_reader.specs.Stands as links
-use Rattle.ep_base.specs.Arena.{Object}
-use Rattle.ep_base.specs.Hearing.{Asked, Hearing, RoundEnd}
-use Rattle.ep_base.specs.Kernel.{KernelSteps}
-use Rattle.ep_base.specs.PreProcessing.{Ready}
-use Rattle.ep_base.specs.Said.{Said}
-use Rattle.ep_base.specs.Talk.{Talk}
-use Rattle.ep_base.specs.TransportRun.{HearEnd}
-use Rattle.law_lane.specs.Standing.{Doing, Standing, Stopped, asked_by, events_of}
+use Rattle.ep_base.specs.Objects.Arena.{Object}
+use Rattle.ep_base.specs.Air.Heard.{Ask, Heard as Hearing, RoundEnd}
+use Rattle.ep_rules.specs.EntryPoint.Kernel.{KernelSteps}
+use Rattle.ep_rules.specs.EntryPoint.PreProcessing.{Ready}
+use Rattle.ep_rules.specs.EntryPoint.Event.{Said}
+use Rattle.ep_rules.specs.EntryPoint.Talk.{Talk}
+use Rattle.ep_rules.specs.EntryPoint.TransportRun.{HearEnd}
+use Rattle.ep_claim.specs.Lanes.Standing.{Doing, Standing, Stopped, asked_by, events_of}
 use Rattle.poll_activate.specs.Meaning.{ends_of}
 use Rattle.session_event.specs.Event.{said_of_end}
 use Rattle.session_event.specs.declared.event.End.{End}
@@ -86,7 +86,7 @@ is_ask (turns.Ask ask) = true
 is_ask (turns.Ended end) = false
 
 -- A session's answer where what is asked was written into a place of the caller's (this project's own).
-abbrev pub turn_of : Option End → Asked → Turn
+abbrev pub turn_of : Option End → Ask → Turn
 turn_of None ask = turns.Ask ask
 turn_of (Some end) ask = turns.Ended end
 

@@ -1,8 +1,8 @@
 //! The next exchange of an open transaction.
 ghost use Rattle.std.specs.Prelude.{◌≡◌, ℕ, ◌<◌, ◌≤◌, ◌++◌, true, Some};
 ghost use Rattle.arrayvec.specs.ArrayVec.{array_vec_len};
-ghost use Rattle.ep_base.specs.Talk.{Talk};
-ghost use Rattle.law_lane.specs.Standing.{Standing, after_hearing, events_of};
+ghost use Rattle.ep_rules.specs.EntryPoint.Talk.{Talk};
+ghost use Rattle.ep_claim.specs.Lanes.Standing.{Standing, after_hearing, events_of};
 ghost use Rattle.poll_activate.specs.Meaning.{ends_of};
 ghost use Rattle.rf_frame.specs.Meaning.{heard_of};
 ghost use Rattle.session_phases.specs.Room.{HasRoom};

@@ -1,11 +1,11 @@
 //! Sessions.
 ghost use Rattle.std.specs.Prelude.{◌≡◌, ℕ, ◌<◌, ◌≤◌, [], ◌++◌, length, true, false, IfOk};
 ghost use Rattle.arrayvec.specs.ArrayVec.{array_vec_len};
-ghost use Rattle.ep_base.specs.Arena.{opened};
-ghost use Rattle.ep_base.specs.EntryPoint.{transaction};
-ghost use Rattle.ep_base.specs.Talk.{Talk};
-ghost use Rattle.ep_base.specs.TransportRun.{Runs};
-ghost use Rattle.law_lane.specs.Standing.{Standing, after_hearing, events_of, started};
+ghost use Rattle.ep_base.specs.Objects.Arena.{opened};
+ghost use Rattle.ep_rules.specs.EntryPoint.Transaction.{transaction};
+ghost use Rattle.ep_rules.specs.EntryPoint.Talk.{Talk};
+ghost use Rattle.ep_rules.specs.EntryPoint.TransportRun.{Runs};
+ghost use Rattle.ep_claim.specs.Lanes.Standing.{Standing, after_hearing, events_of, started};
 ghost use Rattle.law_run.specs.Heard.{RanBy};
 ghost use Rattle.poll_activate.specs.Meaning.{ends_of};
 ghost use Rattle.rf_frame.specs.Meaning.{heard_of};

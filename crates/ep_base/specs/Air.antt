@@ -1,60 +1,7 @@
--- What becomes of the frames of a transaction (this project's own).
-use Rattle.std.specs.Prelude.{◌≡◌, ℕ, ◌<◌, ◌^◌, Bool, true, false, List, [], ◌∷◌}
-
--- What becomes of one frame: it passes; it is lost; a burst falls on its bits; or every card leaves, and it is lost.
-pub data Leg : Type 0 where
-  Passes : Leg
-  Loses : Leg
-  Bursts : (start mask : ℕ) → Leg
-  Leaves : Leg
-
--- What becomes of the frame and of the answer of an exchange.
-pub record Passage : Type 0 where
-  pub down : Leg
-  pub up : Leg
-
--- A burst is one run of at most sixteen bits (this project's own).
-abbrev pub IsLeg : Leg → Type 0
-IsLeg Passes = Unit {0}
-IsLeg Loses = Unit {0}
-IsLeg (Bursts start mask) = mask < 2 ^ 16
-IsLeg Leaves = Unit {0}
-
--- So are all of these fates (this project's own).
-abbrev pub ArePassages : List Passage → Type 0
-ArePassages [] = Unit {0}
-ArePassages (f ∷ fates) = IsLeg f.down × IsLeg f.up × ArePassages fates
-
--- The fates that are left, and whether the cards are gone.
-pub record Air : Type 0 where
-  pub fates : List Passage
-  pub gone : Bool
-
--- The next fate; after the list's end all frames pass.
-abbrev pub next_fate : List Passage → Passage
-next_fate [] = record { down = Passes; up = Passes }
-next_fate (f ∷ fs) = f
-
-abbrev pub fates_after : List Passage → List Passage
-fates_after [] = []
-fates_after (f ∷ fs) = fs
-
--- Whether the cards are gone after a frame with this fate.
-abbrev pub gone_by : Bool → Leg → Bool
-gone_by true leg = true
-gone_by false Passes = false
-gone_by false Loses = false
-gone_by false (Bursts start mask) = false
-gone_by false Leaves = true
-
-abbrev pub air_by : Bool → Passage → List Passage → Air
-air_by gone f fates = record { fates = fates; gone = gone_by (gone_by gone f.down) f.up }
-
--- The air after one exchange.
-abbrev pub later : Air → Air
-later air = air_by air.gone (next_fate air.fates) (fates_after air.fates)
-
--- Every frame passes.
-abbrev pub AllPass : List Passage → Type 0
-AllPass [] = Unit {0}
-AllPass (f ∷ fates) = (f.down ≡ Passes) × (f.up ≡ Passes) × AllPass fates
+-- Air.
+pub mod Check
+pub mod Fates
+pub mod Frame
+pub mod FrameSize
+pub mod Heard
+pub mod Medium

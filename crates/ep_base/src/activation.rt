@@ -1,6 +1,6 @@
 //! What ATS and ATQB say.
 ghost use Rattle.std.specs.Prelude.{◌≡◌, ◌≤◌, ◌<◌};
-ghost use Rattle.ep_base.specs.Activation.{bit, waiting};
+ghost use Rattle.ep_base.specs.Cards.Activation.{bit, waiting};
 
 /// What an ATS says (ISO/IEC 14443-4).
 #[derive(Clone, Copy, Debug, PartialEq, Eq)]

@@ -1,6 +1,6 @@
 //! Buffers of fixed size, and the sizes of frames.
 ghost use Rattle.std.specs.Prelude.{◌≡◌, ◌<◌, ◌≤◌};
-ghost use Rattle.ep_base.specs.FrameSize.{frame_size};
+ghost use Rattle.ep_base.specs.Air.FrameSize.{frame_size};
 
 use crate::limits::{FRAME, FRAME_16, LINE_BYTES};
 use arrayvec::{ArrayString, ArrayVec};
@@ -16,7 +16,7 @@ pub type Line = ArrayString<LINE_BYTES>;
 
 /// The frame size of a code, in bytes, the prologue and the check bytes among them (ISO/IEC 14443-4; that codes 9 to
 /// 15 count as 256 is this project's profile).
-#[tactic(auto, unfolding(crate::specs::FrameSize::frame_size))]
+#[tactic(auto, unfolding(crate::specs::Air::FrameSize::frame_size))]
 pub fn frame_size(code: u8) -> u16
     requires { code < 16 }
     ensures size { result ≡ frame_size code }

@@ -17,7 +17,7 @@ pub struct MemorySource {
 }
 
 impl MemorySource {
-    ghost use Rattle.ep_base.specs.Memory.{bytes_left};
+    ghost use Rattle.ep_base.specs.Streams.Memory.{bytes_left};
 
     /// A source of these bytes, which fails at these calls.
     pub fn new(bytes: Vec<u8>, fails: Vec<u32>) -> MemorySource
@@ -36,9 +36,9 @@ impl MemorySource {
 impl Source for MemorySource {
     ghost use Rattle.std.specs.Prelude.{◌≡◌, ◌<◌, ◌↔◌, ℕ, min, true, drop, length, Some};
     ghost use Rattle.std.specs.declared.option.Option.{Option};
-    ghost use Rattle.ep_base.specs.Causes.{HasCause};
-    ghost use Rattle.ep_base.specs.Io.{Pulls, GotWithin};
-    ghost use Rattle.ep_base.specs.Memory.{GaveAll, bytes_left, is_listed, next_call};
+    ghost use Rattle.ep_base.specs.Streams.Causes.{HasCause};
+    ghost use Rattle.ep_base.specs.Streams.Io.{Pulls, GotWithin};
+    ghost use Rattle.ep_base.specs.Streams.Memory.{GaveAll, bytes_left, is_listed, next_call};
 
     ghost left = { λ s. Option.Some (drop s.at s.bytes.items) };
 
@@ -84,7 +84,7 @@ pub struct MemorySink {
 }
 
 impl MemorySink {
-    ghost use Rattle.ep_base.specs.Memory.{bytes_held};
+    ghost use Rattle.ep_base.specs.Streams.Memory.{bytes_held};
 
     /// A sink with room for this many bytes, which fails at these calls.
     ///
@@ -115,9 +115,9 @@ impl MemorySink {
 impl Sink for MemorySink {
     ghost use Rattle.std.specs.Prelude.{◌≡◌, ◌↔◌, ℕ, true, length, IfOk, IsErr, Some};
     ghost use Rattle.std.specs.declared.option.Option.{Option};
-    ghost use Rattle.ep_base.specs.Causes.{HasCause};
-    ghost use Rattle.ep_base.specs.Io.{Pushes, TookWithin};
-    ghost use Rattle.ep_base.specs.Memory.{bytes_held, next_call, sink_refuses};
+    ghost use Rattle.ep_base.specs.Streams.Causes.{HasCause};
+    ghost use Rattle.ep_base.specs.Streams.Io.{Pushes, TookWithin};
+    ghost use Rattle.ep_base.specs.Streams.Memory.{bytes_held, next_call, sink_refuses};
 
     ghost written = { λ s. Option.Some s.held.items };
 

@@ -2,8 +2,8 @@
 ghost use Rattle.std.specs.Prelude.{◌≡◌, ◌<◌, ◌≤◌, ℕ, List, length, IfOk, IsErrOf, OnOk, OnErr, IsErr, IfSome, is_some};
 ghost use Rattle.std.specs.declared.option.Option.{Option};
 ghost use Rattle.std.specs.Io.KnownBytes.{Appends, Consumes, IsAtEnd};
-ghost use Rattle.ep_base.specs.Causes.{HasCause};
-ghost use Rattle.ep_base.specs.Io.{Pulls, GotWithin, Pushes, TookWithin, AppendsPrefix, GaveTooMuch, Takes};
+ghost use Rattle.ep_base.specs.Streams.Causes.{HasCause};
+ghost use Rattle.ep_base.specs.Streams.Io.{Pulls, GotWithin, Pushes, TookWithin, AppendsPrefix, GaveTooMuch, Takes};
 
 use crate::limits::PIECE;
 use std::alloc::Global;

@@ -4,7 +4,7 @@ use Rattle.std.specs.Prelude.{if◌then◌else◌, OnErr}
 use Rattle.std.proofs.lemmas.Bool.Decides.{eqb_tells, leb_tells}
 use Rattle.std.proofs.lemmas.List.{map-set, length-map, get_or-set_same, get_or-set_other, replicate-append-replicate}
 use Rattle.std.proofs.lemmas.Option.{unwrap_or-slice_get, slice_get_past, slice_get-map, slice_get-get_or, get_or_from_slice_get}
-use Rattle.ep_base.specs.Hearing.{Asked}
+use Rattle.ep_base.specs.Air.Heard.{Ask}
 use Rattle.entry_session.specs.Turns.{View}
 use Rattle.ep_lanes.specs.Lanes.{LaneHeld, no_lane, open_by}
 
@@ -102,7 +102,7 @@ is_none None e = refl
 is_none (Some x) e = let never : true ≡ false = e in cc
 
 -- a transaction is open where something is asked
-pub is_some-open_by : {S : Type 0} (w : View S) (o : Option Asked) → is_some (open_by w o) ≡ is_some o
+pub is_some-open_by : {S : Type 0} (w : View S) (o : Option Ask) → is_some (open_by w o) ≡ is_some o
 is_some-open_by w None = refl
 is_some-open_by w (Some ask) = refl
 

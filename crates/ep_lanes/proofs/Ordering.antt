@@ -2,7 +2,7 @@
 use Rattle.std.proofs.Common.{◌≡◌, ⊎_elim, ℕ, zero, suc, ◌+◌, ◌-◌, ◌<◌, ◌≤◌, Bool, true, false, List, [], ◌∷◌, drop, get_or, length, refl, sym, ◌∙◌, ap, subst, arith, rules, Option, Some, None}
 use Rattle.std.specs.Prelude.{if◌then◌else◌, ◌↔◌, IsNone, IfSome}
 use Rattle.std.proofs.lemmas.List.{drop_more}
-use Rattle.law_turns.specs.Order.{Order, listed, lowest, or_else, in_round, round_turn, turn_by, next_turn}
+use Rattle.ep_claim.specs.Lanes.Order.{Order, listed, lowest, or_else, in_round, round_turn, turn_by, next_turn}
 use Rattle.law_turns.proofs.Ordering.{Anyhow, anyhow}
 use Rattle.ep_lanes.specs.Lanes.{Held, is_live, count_of, next_of, lane_in, next_lane}
 use Rattle.ep_lanes.proofs.Numbering.{there_or_not}

@@ -1,10 +1,10 @@
 -- What a lane's standing tells of its transaction, for those who follow a run.
 use Rattle.std.proofs.Common.{◌≡◌, ℕ, true, false, Option, Some, None, is_some, refl, sym, ◌∙◌, ap, subst}
-use Rattle.ep_base.specs.Hearing.{Asked}
-use Rattle.ep_base.specs.Kernel.{KernelSteps}
-use Rattle.ep_base.specs.Talk.{Talk}
+use Rattle.ep_base.specs.Air.Heard.{Ask}
+use Rattle.ep_rules.specs.EntryPoint.Kernel.{KernelSteps}
+use Rattle.ep_rules.specs.EntryPoint.Talk.{Talk}
 use Rattle.entry_session.specs.Turns.{IsOver}
-use Rattle.law_lane.specs.Standing.{Standing, asked_by}
+use Rattle.ep_claim.specs.Lanes.Standing.{Standing, asked_by}
 use Rattle.ep_lanes.specs.Lanes.{OpenTransaction, LaneHeld}
 use Rattle.ep_lanes.specs.Turns.{TransactionIs, Stands}
 
@@ -13,7 +13,7 @@ module _ {S : Type 0} (k : KernelSteps S) (talk : Talk) (fsdi : ℕ) (st : Stand
   none_over None e h = h
   none_over (Some t) e h = let never : true ≡ false = e in cc
 
-  asked_open : (t : Option (OpenTransaction S)) (ask : Asked) → asked_by fsdi st.doing ≡ Some ask → TransactionIs k t talk fsdi st → is_some t ≡ true
+  asked_open : (t : Option (OpenTransaction S)) (ask : Ask) → asked_by fsdi st.doing ≡ Some ask → TransactionIs k t talk fsdi st → is_some t ≡ true
   asked_open (Some t) ask e h = refl
   asked_open None ask e h = let never : None ≡ Some ask = sym (ap (λ d. asked_by fsdi d) h.stopped) ∙ e in cc
 
@@ -26,5 +26,5 @@ module _ {S : Type 0} (k : KernelSteps S) (talk : Talk) (fsdi : ℕ) (st : Stand
   over_then l none h = none_over l.transaction none h.transaction
 
   -- where something is asked there is one
-  pub open_then : (l : LaneHeld S) (ask : Asked) → asked_by fsdi st.doing ≡ Some ask → Stands k l talk fsdi st → is_some l.transaction ≡ true
+  pub open_then : (l : LaneHeld S) (ask : Ask) → asked_by fsdi st.doing ≡ Some ask → Stands k l talk fsdi st → is_some l.transaction ≡ true
   open_then l ask e h = asked_open l.transaction ask e h.transaction

@@ -1,8 +1,8 @@
 -- Several lanes in plain data.
 use Rattle.std.specs.Prelude.{ℕ, ◌-◌, ◌==◌, Bool, true, false, if◌then◌else◌, List, length, map, replicate, drop, slice_get, unwrap_or, Option, Some, None, is_some}
-use Rattle.ep_base.specs.Hearing.{Asked, Hearing}
+use Rattle.ep_base.specs.Air.Heard.{Ask, Heard}
 use Rattle.entry_session.specs.Turns.{View, view_of}
-use Rattle.law_turns.specs.Order.{Order, next_turn, first_order}
+use Rattle.ep_claim.specs.Lanes.Order.{Order, next_turn, first_order}
 use Rattle.rf_frame.specs.Meaning.{heard_of}
 use Rattle.ep_lanes.specs.declared.exchange.Exchange.{Exchange}
 use Rattle.ep_lanes.specs.declared.holding.Lane.{Lane}
@@ -11,7 +11,7 @@ use Rattle.ep_lanes.specs.declared.holding.Lanes.{Lanes}
 -- An open transaction of a lane: its session, and what it asks in its next exchange (this project's own).
 pub record OpenTransaction (S : Type 0) : Type 0 where
   pub session : View S
-  pub asks : Asked
+  pub asks : Ask
 
 -- A lane: whether it is live, and its open transaction, if it has one (this project's own).
 pub record LaneHeld (S : Type 0) : Type 0 where
@@ -21,8 +21,8 @@ pub record LaneHeld (S : Type 0) : Type 0 where
 -- An exchange of a lane: what was asked, and what the reader heard (this project's own).
 pub record Made : Type 0 where
   pub lane : ℕ
-  pub asked : Asked
-  pub heard : Hearing
+  pub asked : Ask
+  pub heard : Heard
 
 -- Lanes, of which the first has the number 1, the order of their exchanges to come, and the exchange of the last turn (this project's own).
 pub record Held (S : Type 0) : Type 0 where
@@ -90,7 +90,7 @@ maybe_made None = None
 maybe_made (Some e) = Some (made_of e)
 
 -- A session's transaction, where it asks something (this project's own).
-abbrev pub open_by : {S : Type 0} → View S → Option Asked → Option (OpenTransaction S)
+abbrev pub open_by : {S : Type 0} → View S → Option Ask → Option (OpenTransaction S)
 open_by v None = None
 open_by v (Some ask) = Some (record { session = v; asks = ask })
 

@@ -1,11 +1,11 @@
 -- What a probe may make of a hearing, in plain data.
 use Rattle.std.specs.Prelude.{◌≡◌, ℕ, ⊤}
-use Rattle.ep_base.specs.Hearing.{Asked, Hearing}
-use Rattle.law_turns.specs.WholeRun.{ProbeSteps}
+use Rattle.ep_base.specs.Air.Heard.{Ask, Heard}
+use Rattle.ep_claim.specs.Lanes.WholeRun.{ProbeSteps}
 
 -- What a reader may hear, by the probe's state, the lane, what was asked and what the medium gave, and the probe's state after it (this project's own).
 pub record ProbeAnswers (P : Type 0) : Type 1 where
-  pub hears : P → (lane : ℕ) → Asked → Hearing → Hearing → P → Type 0
+  pub hears : P → (lane : ℕ) → Ask → Heard → Heard → P → Type 0
 
 -- A probe that tells its step has one answer (this project's own).
 abbrev pub told : {P : Type 0} → ProbeSteps P → ProbeAnswers P

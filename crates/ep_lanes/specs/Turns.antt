@@ -1,12 +1,12 @@
 -- What a lane's transaction stands for, and what a turn comes to, in plain data.
 use Rattle.std.specs.Prelude.{◌≡◌, ℕ, true, List, ◌++◌, Option, Some, None, is_some}
 use Rattle.entry_session.specs.Turns.{StandsFor, IsOver, EndedBy}
-use Rattle.ep_base.specs.Hearing.{Hearing}
-use Rattle.ep_base.specs.Kernel.{KernelSteps}
-use Rattle.ep_base.specs.Medium.{MediumSteps, Exchanges}
-use Rattle.ep_base.specs.Said.{Said}
-use Rattle.ep_base.specs.Talk.{Talk}
-use Rattle.law_lane.specs.Standing.{Standing, asked_by, after_hearing, events_of}
+use Rattle.ep_base.specs.Air.Heard.{Heard}
+use Rattle.ep_rules.specs.EntryPoint.Kernel.{KernelSteps}
+use Rattle.ep_base.specs.Air.Medium.{MediumSteps, Exchanges}
+use Rattle.ep_rules.specs.EntryPoint.Event.{Said}
+use Rattle.ep_rules.specs.EntryPoint.Talk.{Talk}
+use Rattle.ep_claim.specs.Lanes.Standing.{Standing, asked_by, after_hearing, events_of}
 use Rattle.ep_lanes.specs.Lanes.{OpenTransaction, LaneHeld, Made, Held, no_lane, lane_of}
 use Rattle.ep_lanes.specs.Probing.{ProbeAnswers}
 use Rattle.ep_lanes.specs.declared.exchange.Turned.{Turned}
@@ -38,7 +38,7 @@ pub record Makes {K M P : Type 0} (kernel : KernelSteps K) (medium : MediumSteps
   pub transaction : OpenTransaction K
   pub was : before.transaction ≡ Some transaction
   pub asked : made.asked ≡ transaction.asks
-  pub given : Hearing
+  pub given : Heard
   pub exchange : Exchanges medium s made.asked (Some given) t
   pub heard : probe.hears p made.lane made.asked given made.heard q
   pub live : after.live ≡ true

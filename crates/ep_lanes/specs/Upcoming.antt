@@ -1,6 +1,6 @@
 -- The next turn as the code holds it, in plain data (this project's own).
 use Rattle.std.specs.Prelude.{ℕ, ◌+◌, List, drop, slice_index, Option, Some, None}
-use Rattle.law_turns.specs.Order.{Order}
+use Rattle.ep_claim.specs.Lanes.Order.{Order}
 use Rattle.ep_lanes.specs.declared.order.Upcoming.{Upcoming}
 
 -- The lane at a place of the turn list, and the list after it (this project's own).

@@ -1,11 +1,11 @@
 //! One lane.
 ghost use Rattle.std.specs.Prelude.{◌≡◌, ◌<◌, ◌++◌, ℕ, true, false, None, Some, is_some, IfOk, IfErr, OnErr, IsErr};
 ghost use Rattle.arrayvec.specs.ArrayVec.{array_vec_len};
-ghost use Rattle.ep_base.specs.Causes.{HasCause};
-ghost use Rattle.ep_base.specs.EntryPoint.{transaction};
-ghost use Rattle.ep_base.specs.Hearing.{Asked};
-ghost use Rattle.ep_base.specs.Talk.{Talk};
-ghost use Rattle.law_lane.specs.Standing.{Standing, events_of, started};
+ghost use Rattle.ep_base.specs.Streams.Causes.{HasCause};
+ghost use Rattle.ep_rules.specs.EntryPoint.Transaction.{transaction};
+ghost use Rattle.ep_base.specs.Air.Heard.{Ask as Asked};
+ghost use Rattle.ep_rules.specs.EntryPoint.Talk.{Talk};
+ghost use Rattle.ep_claim.specs.Lanes.Standing.{Standing, events_of, started};
 ghost use Rattle.entry_session.specs.Turns.{is_ask};
 ghost use Rattle.session_phases.specs.Told.{told_by};
 ghost use Rattle.ep_lanes.specs.Lanes.{lane_held, made_of, new_lane};

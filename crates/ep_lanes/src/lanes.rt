@@ -1,9 +1,9 @@
 //! All lanes together.
 ghost use Rattle.std.specs.Prelude.{◌≡◌, ◌≢◌, ◌↔◌, ◌<◌, ◌≤◌, ℕ, true, false, Some, None, IfOk, IfSome, IsNone, OnErr, IsErr, option_map};
 ghost use Rattle.arrayvec.specs.ArrayVec.{array_vec_len};
-ghost use Rattle.ep_base.specs.Causes.{HasCause};
-ghost use Rattle.ep_base.specs.EntryPoint.{transaction};
-ghost use Rattle.law_lane.specs.Standing.{events_of, started};
+ghost use Rattle.ep_base.specs.Streams.Causes.{HasCause};
+ghost use Rattle.ep_rules.specs.EntryPoint.Transaction.{transaction};
+ghost use Rattle.ep_claim.specs.Lanes.Standing.{events_of, started};
 ghost use Rattle.session_phases.specs.Told.{told_by};
 ghost use Rattle.ep_lanes.specs.Lanes.{count_of, has_open, is_live, lane_of, lanes_of, made_of, new_lanes, next_lane, no_lane, next_of, order_after};
 ghost use Rattle.ep_lanes.specs.Saying.{is_goes};

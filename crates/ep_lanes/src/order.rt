@@ -1,6 +1,6 @@
 //! Whose turn it is.
 ghost use Rattle.std.specs.Prelude.{◌≡◌, ◌+◌, ◌≤◌, ◌<◌, drop, vec_len, IfSome};
-ghost use Rattle.law_turns.specs.Order.{in_round, listed, lowest};
+ghost use Rattle.ep_claim.specs.Lanes.Order.{in_round, listed, lowest};
 ghost use Rattle.ep_lanes.specs.Lanes.{count_of, is_live as live_in, lanes_of, next_of};
 ghost use Rattle.ep_lanes.specs.Upcoming.{listed_at, turn_at};
 

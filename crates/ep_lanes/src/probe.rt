@@ -28,7 +28,7 @@ pub struct Open;
 
 impl Probe for Open {
     ghost use Rattle.ep_lanes.specs.Probing.{told};
-    ghost use Rattle.law_turns.specs.WholeRun.{open_probe};
+    ghost use Rattle.ep_claim.specs.Lanes.WholeRun.{open_probe};
 
     ghost State = { Unit {0} };
 

@@ -1,6 +1,6 @@
 //! Two lanes over two fields, a probe that gives silence, and a medium that fails.
 ghost use Rattle.std.specs.Prelude.{◌≡◌, ◌≤◌, All, IfOk, length, vec_len};
-ghost use Rattle.ep_base.specs.Configuration.{IsCombination};
+ghost use Rattle.ep_rules.specs.EntryPoint.Configuration.{IsCombination};
 ghost use Rattle.ep_lanes.specs.Lanes.{has_open, is_live, lanes_of};
 ghost use Rattle.rf_field.specs.Plans.{PlanFits};
 
@@ -242,7 +242,7 @@ struct Broken {
 }
 
 impl Medium for Broken {
-    ghost use Rattle.ep_base.specs.Medium.{untold};
+    ghost use Rattle.ep_base.specs.Air.Medium.{untold};
 
     ghost State = { Unit {0} };
 

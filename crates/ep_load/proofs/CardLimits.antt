@@ -1,9 +1,9 @@
 -- The cards of a load are within the limits of a document's cards.
 use Rattle.std.proofs.Common.{◌≤◌, ◌<◌, inl, ℕ, ◌==◌, List, [], ◌∷◌, length, refl, arith}
 use Rattle.std.proofs.lemmas.List.Elements.{All-cons, All-nil}
-use Rattle.ep_base.specs.CardAnswer.{unused, new_image, IsResponse, AreAnswers, IsRule, IsApp, IsImage}
-use Rattle.ep_base.specs.Configuration.{Combination}
-use Rattle.law_round.specs.Lawful.{IsFormed, Four, Bytes}
+use Rattle.ep_base.specs.Cards.CardAnswer.{unused, new_image, IsResponse, AreAnswers, IsRule, IsApp, IsImage}
+use Rattle.ep_rules.specs.EntryPoint.Configuration.{Combination}
+use Rattle.ep_base.specs.Cards.Lawful.{IsFormed, Four, Bytes}
 use Rattle.card_table.specs.Cards.{Fits, IsCard}
 use Rattle.ep_load.specs.Cards.{id_of, type_a, type_b, rule_with, app_named, card_drawn}
 use Rattle.ep_load.specs.Draws.{Draws, AreDraws}

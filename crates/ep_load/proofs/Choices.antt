@@ -2,7 +2,7 @@
 use Rattle.std.proofs.Common.{◌≡◌, ℕ, Bool, true, false, Some, None, subst, arith, mod-lt}
 use Rattle.std.specs.Prelude.{◌==◌, if◌then◌else◌}
 use Rattle.std.specs.Option.{ForSome}
-use Rattle.ep_base.specs.Configuration.{Combination}
+use Rattle.ep_rules.specs.EntryPoint.Configuration.{Combination}
 use Rattle.ep_load.specs.Draws.{AreDraws, draws}
 use Rattle.ep_load.specs.Terms.{first, second, third, chosen}
 

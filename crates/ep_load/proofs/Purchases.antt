@@ -2,10 +2,10 @@
 use Rattle.std.proofs.Common.{◌≡◌, ◌≤◌, ℕ, zero, suc, ◌+◌, ◌==◌, List, [], ◌∷◌, ◌++◌, length, true, refl, arith}
 use Rattle.std.specs.Prelude.{replicate}
 use Rattle.std.proofs.lemmas.List.Elements.{All-cons, All-nil}
-use Rattle.ep_base.specs.Air.{Passage, ArePassages}
-use Rattle.ep_base.specs.Apdu.{is_command}
-use Rattle.ep_base.specs.Kernel.{Script}
-use Rattle.ep_base.specs.Said.{Verdict}
+use Rattle.ep_base.specs.Air.Fates.{Fate, ArePassages}
+use Rattle.ep_base.specs.Cards.Apdu.{is_command}
+use Rattle.ep_rules.specs.EntryPoint.Kernel.{Script}
+use Rattle.ep_rules.specs.EntryPoint.Event.{Verdict}
 use Rattle.rf_field.specs.Meaning.{clean_passage}
 use Rattle.card_table.specs.Cards.{IsCard}
 use Rattle.card_table.proofs.Numbered.{all_placed, all_distinct}
@@ -51,7 +51,7 @@ are_scripts d =
     either (λ (rest : List Script). AreScripts (script_of k v ∷ rest)) (d.outcome == 3) (script_of k approved ∷ []) []
     (two_scripts k v approved) (one_script k v)
 
-joined : (n : ℕ) (fates : List Passage) → ArePassages fates → ArePassages (replicate n clean_passage ++ fates)
+joined : (n : ℕ) (fates : List Fate) → ArePassages fates → ArePassages (replicate n clean_passage ++ fates)
 joined zero fates are = are
 joined (suc n) fates are = (tt, tt, joined n fates are)
 

@@ -3,7 +3,7 @@ use Rattle.std.proofs.Common.{◌≡◌, ℕ, ◌==◌, List, [], ◌∷◌, len
 use Rattle.std.specs.Prelude.{All}
 use Rattle.std.proofs.lemmas.List.Elements.{All-cons, All-nil}
 use Rattle.std.proofs.lemmas.List.Sums.{count_by-le-length}
-use Rattle.ep_base.specs.Configuration.{Combination, IsAmount, IsCombination, AreSettings}
+use Rattle.ep_rules.specs.EntryPoint.Configuration.{Combination, IsAmount, IsCombination, AreSettings}
 use Rattle.ep_load.specs.Terms.{first, second, third, terms}
 use Rattle.ep_load.proofs.Choices.{of_none, of_some}
 

@@ -1,9 +1,9 @@
 -- The cards of a load (this project's own; the parts of a card are those of ISO/IEC 14443-3 and -4).
 use Rattle.std.specs.Prelude.{ℕ, ◌/◌, ◌%◌, ◌==◌, true, List, [], ◌∷◌, if◌then◌else◌}
-use Rattle.ep_base.specs.CardAnswer.{Rule, App, unused}
-use Rattle.ep_base.specs.Field.{Outside, OfA, OfB}
-use Rattle.ep_base.specs.TypeA.{Idle}
-use Rattle.ep_base.specs.TypeB.{BIdle}
+use Rattle.ep_base.specs.Cards.CardAnswer.{Rule, App, unused}
+use Rattle.ep_base.specs.Cards.Field.{Outside, OfA, OfB}
+use Rattle.ep_base.specs.Cards.TypeA.{Idle}
+use Rattle.ep_base.specs.Cards.TypeB.{BIdle}
 use Rattle.card_table.specs.Cards.{Card}
 use Rattle.ep_load.specs.Draws.{Draws}
 use Rattle.ep_load.specs.Responses.{ppse_response, select_response, kernel_response, kernel_prefix}

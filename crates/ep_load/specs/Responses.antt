@@ -1,7 +1,7 @@
 -- What the cards of a load answer (the objects are those of EMV Book B).
 use Rattle.std.specs.Prelude.{ℕ, List, [], ◌∷◌, ◌++◌, length}
-use Rattle.ep_base.specs.Apdu.{ppse_name}
-use Rattle.ep_base.specs.Objects.{Forest, nothing, primitive, constructed, spelling}
+use Rattle.ep_base.specs.Cards.Apdu.{ppse_name}
+use Rattle.ep_base.specs.Objects.Forest.{Forest, nothing, primitive, constructed, spelling}
 
 -- An object whose length is one byte, before others (EMV Book B).
 abbrev pub short_value : List ℕ → List ℕ → Forest → Forest

@@ -2,8 +2,8 @@
 use Rattle.std.specs.Prelude.{ℕ, ◌==◌, List, [], ◌∷◌, Some, None, if◌then◌else◌}
 use Rattle.ep_base.specs.declared.outcome.OutcomeKind.TheVariants as kinds
 use Rattle.ep_base.specs.declared.outcome.Message.TheVariants as messages
-use Rattle.ep_base.specs.Kernel.{Step, Script, no_verdict}
-use Rattle.ep_base.specs.Said.{Verdict}
+use Rattle.ep_rules.specs.EntryPoint.Kernel.{Step, Script, no_verdict}
+use Rattle.ep_rules.specs.EntryPoint.Event.{Verdict}
 use Rattle.ep_load.specs.Draws.{Draws}
 use Rattle.ep_load.specs.Terms.{chosen}
 

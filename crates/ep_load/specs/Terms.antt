@@ -1,6 +1,6 @@
 -- The configuration of a load (the Combinations are this project's own; their parts are those of EMV Book A).
 use Rattle.std.specs.Prelude.{ℕ, ◌==◌, false, [], ◌∷◌, Some, None, if◌then◌else◌}
-use Rattle.ep_base.specs.Configuration.{Combination, Settings}
+use Rattle.ep_rules.specs.EntryPoint.Configuration.{Combination, Config}
 
 -- The first Combination (this project's own).
 abbrev pub first : Combination
@@ -51,7 +51,7 @@ third = record {
 }
 
 -- The exponent, and all three of them (this project's own).
-abbrev pub terms : Settings
+abbrev pub terms : Config
 terms = record { exponent = 2; list = first ∷ second ∷ third ∷ [] }
 
 -- The Combination of a draw below 3 (this project's own).

@@ -52,7 +52,7 @@ fn outcome_drawn(outcome: u16) -> Outcome
 }
 
 // The command of every script.
-#[tactic(auto, unfolding(ep_base::specs::Apdu::is_command))]
+#[tactic(auto, unfolding(ep_base::specs::Cards::Apdu::is_command))]
 fn step() -> Step
     ensures { result ≡ step }
 {

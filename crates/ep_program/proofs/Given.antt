@@ -1,7 +1,7 @@
 -- What was taken of the input: an answer to a document, or to a load, is none to an input that gave too much.
 use Rattle.std.proofs.Common.{◌≡◌, ℕ, ◌+◌, ◌≤◌, ◌<◌, Bool, List, [], length, arith}
 use Rattle.std.specs.declared.option.Option.{Option}
-use Rattle.ep_base.specs.Io.{Takes}
+use Rattle.ep_base.specs.Streams.Io.{Takes}
 use Rattle.ep_base.specs.declared.limits.TheConstants.{INPUT, PIECE}
 use Rattle.ep_base.proofs.Known.{consumes_none}
 use Rattle.ep_lanes.specs.Probing.{ProbeAnswers}

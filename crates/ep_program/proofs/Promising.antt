@@ -2,21 +2,21 @@
 use Rattle.std.proofs.Common.{◌≡◌, ℕ, zero, suc, ◌+◌, Bool, true, false, List, [], ◌∷◌, length, map, All, refl, sym, ap, subst, ◌∙◌}
 use Rattle.std.specs.Prelude.{◌==◌, if◌then◌else◌}
 use Rattle.std.proofs.lemmas.List.Elements.{All-nil, All-head, All-tail}
-use Rattle.ep_base.specs.Configuration.{Settings}
-use Rattle.ep_base.specs.Kernel.{scripted}
-use Rattle.ep_base.specs.Lanes.{times}
-use Rattle.law_lane.specs.Exchanges.{field_answers, or_silence}
+use Rattle.ep_rules.specs.EntryPoint.Configuration.{Config}
+use Rattle.ep_rules.specs.EntryPoint.Kernel.{scripted}
+use Rattle.ep_claim.specs.Lanes.Steps.{times}
+use Rattle.ep_claim.specs.Lanes.Exchanges.{field_answers, or_silence}
 use Rattle.law_radio.proofs.Closings.{transaction_closes_law}
-use Rattle.law_run.specs.Bounds.{log_bound}
+use Rattle.ep_rules.specs.EntryPoint.Bounds.{log_bound}
 use Rattle.law_run.proofs.Bounding.{few_commands_lem}
 use Rattle.law_run.proofs.Scripting.{scripts_fall_lem}
 use Rattle.law_run.proofs.Legal.{scripted_lem}
-use Rattle.law_turns.specs.LaneText.{Job}
-use Rattle.law_turns.specs.WholeRun.{ProbeSteps, open_probe, Run, hears, asks, turn_of, takes_turn, run_step, opened_run, run_after}
-use Rattle.law_turns.specs.Telling.{jobs_of}
-use Rattle.law_turns.specs.Ending.{HasEnded}
-use Rattle.law_turns.specs.Keeping.{cards_in, IsReady}
-use Rattle.law_turns.specs.LanePromise.{AreReady}
+use Rattle.ep_claim.specs.Lanes.LaneText.{Job}
+use Rattle.ep_claim.specs.Lanes.WholeRun.{ProbeSteps, open_probe, Run, hears, asks, turn_of, takes_turn, run_step, opened_run, run_after}
+use Rattle.ep_claim.specs.Lanes.Telling.{jobs_of}
+use Rattle.ep_claim.specs.Lanes.Ending.{HasEnded}
+use Rattle.ep_claim.specs.Promise.Transaction.{cards_in, IsReady}
+use Rattle.ep_claim.specs.Promise.Lane.{AreReady}
 use Rattle.law_turns.proofs.Apart.{lanes_apart_law}
 use Rattle.law_turns.proofs.Ending.{one_end_law}
 use Rattle.law_turns.proofs.Keeping.{told_keep_law}
@@ -26,7 +26,7 @@ use Rattle.law_turns.proofs.Writing.{pieces_are_text_law}
 use Rattle.scenario.specs.Scene.{Work}
 use Rattle.lane_report.specs.Works.{preparation, job_of}
 use Rattle.ep_program.specs.Headline.{IsFresh}
-use Rattle.ep_program.specs.Promise.{GivesOn, HasPromise}
+use Rattle.ep_claim.specs.Promise.Run.{GivesOn, HasPromise}
 
 -- ---- a run with a probe that gives on what it gets is one with the open probe
 
@@ -62,7 +62,7 @@ module _ {P : Type 0} (steps : ProbeSteps P) (gives : GivesOn steps) (traced : B
 abbrev pub MayBegin : ℕ → Job → Type 0
 MayBegin fsdi j = IsReady fsdi j (cards_in j)
 
-pub may_begin : (settings : Settings) (fsdi : ℕ) (w : Work) → IsFresh settings fsdi w → MayBegin fsdi (job_of settings w)
+pub may_begin : (settings : Config) (fsdi : ℕ) (w : Work) → IsFresh settings fsdi w → MayBegin fsdi (job_of settings w)
 may_begin settings fsdi w fresh =
     let p = preparation settings w in
     record {

@@ -6,13 +6,13 @@ use Rattle.std.specs.Io.KnownBytes.{Appends}
 use Rattle.std.proofs.lemmas.List.{length-map}
 use Rattle.std.proofs.lemmas.List.Sums.{length-filter}
 use Rattle.std.proofs.lemmas.List.Elements.{All-nil, All-cons, All-head, All-tail, All-weaker, All-map}
-use Rattle.ep_base.specs.Configuration.{Combination, Settings, AreSettings, count_of}
-use Rattle.ep_base.specs.Io.{AppendsPrefix}
-use Rattle.ep_base.specs.Kernel.{steps_left}
-use Rattle.ep_base.specs.PreProcessing.{prepared_one, prepared}
+use Rattle.ep_rules.specs.EntryPoint.Configuration.{Combination, Config, AreSettings, count_of}
+use Rattle.ep_base.specs.Streams.Io.{AppendsPrefix}
+use Rattle.ep_rules.specs.EntryPoint.Kernel.{steps_left}
+use Rattle.ep_rules.specs.EntryPoint.PreProcessing.{prepared_one, prepared}
 use Rattle.law_radio.proofs.Finding.{new_field_law}
-use Rattle.law_turns.specs.LaneText.{Job}
-use Rattle.law_turns.specs.WholeRun.{ProbeSteps}
+use Rattle.ep_claim.specs.Lanes.LaneText.{Job}
+use Rattle.ep_claim.specs.Lanes.WholeRun.{ProbeSteps}
 use Rattle.card_table.specs.Placing.{placed_from}
 use Rattle.ep_lanes.specs.Lanes.{Held, new_lanes}
 use Rattle.ep_lanes.specs.Probing.{ProbeAnswers}
@@ -24,7 +24,7 @@ use Rattle.scenario.specs.Plan.{Transaction, Plan}
 use Rattle.scenario.specs.Scene.{Work, Scene, room_of, work_of, scene_of}
 use Rattle.ep_program.specs.Headline.{jobs_in, IsFresh, IsReady}
 use Rattle.ep_program.specs.Input.{Gives, Opens}
-use Rattle.ep_program.specs.Promise.{HasPromise}
+use Rattle.ep_claim.specs.Promise.Run.{HasPromise}
 use Rattle.ep_program.specs.Serve.{Outside, IsTextOf, Writes, WritesPart, Reports, Runs}
 use Rattle.ep_program.specs.declared.status.Status.{Status}
 use Rattle.ep_program.specs.declared.status.Status.TheVariants.{Done, ReadFault, WriteFault, NoMemory, Usage, TooLong, NotToml, BadDocument, Mismatch}
@@ -34,7 +34,7 @@ use Rattle.ep_program.proofs.Within.{is_bounded_run, keeps_records_free}
 -- ---- the transactions of an accepted document may begin
 
 -- Pre-Processing leaves as many Combinations as the configuration has of the type.
-prepared_count : (settings : Settings) (txn_type amount : ℕ) → length (prepared settings txn_type amount) ≡ count_of txn_type settings.list
+prepared_count : (settings : Config) (txn_type amount : ℕ) → length (prepared settings txn_type amount) ≡ count_of txn_type settings.list
 prepared_count settings txn_type amount =
     length-map (filter (λ (c : Combination). c.txn_type == txn_type) settings.list) (prepared_one settings.exponent amount)
     ∙ length-filter (λ (c : Combination). c.txn_type == txn_type) settings.list
@@ -51,7 +51,7 @@ room_more a a' b b' n m ea eb en =
 no_more : (n : ℕ) → n + 0 ≡ n
 no_more n = omega arith
 
-module _ (settings : Settings) (limits : AreSettings settings) (fsdi : ℕ) where
+module _ (settings : Config) (limits : AreSettings settings) (fsdi : ℕ) where
   is_fresh : (t : Transaction) → IsLawful t → IsFresh settings fsdi (work_of settings t)
   is_fresh t lawful = record {
     new = new_field_law (placed_from 1 t.cards) t.presence t.fates (room_of settings t) fsdi lawful.placed lawful.apart lawful.distinct lawful.fates;
@@ -70,7 +70,7 @@ module _ (settings : Settings) (limits : AreSettings settings) (fsdi : ℕ) wher
       All-map (IsFresh settings fsdi) (work_of settings) lane
       (All-weaker IsLawful (λ t. IsFresh settings fsdi (work_of settings t)) is_fresh lane is.lawful)
 
-lane_short : (settings : Settings) (lane : List Transaction) → IsLane lane → length (map (work_of settings) lane) ≤ 64
+lane_short : (settings : Config) (lane : List Transaction) → IsLane lane → length (map (work_of settings) lane) ≤ 64
 lane_short settings lane is = subst (λ n. n ≤ 64) (sym (length-map lane (work_of settings))) is.short
 
 is_ready : (p : Plan) → IsAccepted p → IsReady (scene_of p)
@@ -95,7 +95,7 @@ map_twice : {A B C : Type 0} (f : A → B) (g : B → C) (xs : List A) → map (
 map_twice f g [] = refl
 map_twice f g (x ∷ xs) = ap (λ l. g (f x) ∷ l) (map_twice f g xs)
 
-module _ (settings : Settings) (fsdi : ℕ) where
+module _ (settings : Config) (fsdi : ℕ) where
   abbrev IsShort : List Work → Type 0
   IsShort lane = length lane ≤ 64
 
@@ -116,7 +116,7 @@ module _ (settings : Settings) (fsdi : ℕ) where
       (new_works rest (All-tail IsShort lane rest short) (All-tail (All (IsFresh settings fsdi)) lane rest fresh))
 
 -- What is to be done by lanes of this kind, each of which holds a list of transactions.
-module _ {V : Type 0} (items : V → List Work) (settings : Settings) (lanes : List V) (works : List LaneWork)
+module _ {V : Type 0} (items : V → List Work) (settings : Config) (lanes : List V) (works : List LaneWork)
     (is : works ≡ map (λ lane. new_work (items lane)) lanes) where
   pub works_are_new : (fsdi : ℕ) → All (λ lane. length lane ≤ 64) (map items lanes) → All (All (IsFresh settings fsdi)) (map items lanes)
       → All (IsNewWork settings) works
@@ -137,7 +137,7 @@ opened_new {S} held n m turns is same =
 
 -- ---- a run that was written is served
 
-module _ (settings : Settings) (fsdi : ℕ) where
+module _ (settings : Config) (fsdi : ℕ) where
   jobs_begin : (lane : List Work) → All (IsFresh settings fsdi) lane → All (MayBegin fsdi) (map (job_of settings) lane)
   jobs_begin lane fresh =
       All-map (MayBegin fsdi) (job_of settings) lane

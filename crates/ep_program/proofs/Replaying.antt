@@ -6,14 +6,14 @@ use Rattle.std.specs.Io.KnownBytes.{Appends, Keeps}
 use Rattle.toml.specs.Data.{Members}
 use Rattle.doc_table.specs.Fault.{Fault}
 use Rattle.doc_table.specs.Read.{◌>>=◌}
-use Rattle.ep_base.specs.Configuration.{Settings}
-use Rattle.ep_base.specs.Io.{AppendsPrefix}
-use Rattle.ep_base.specs.ReplayRun as traces
-use Rattle.ep_base.specs.Talk.{Talk}
-use Rattle.ep_base.specs.TraceLine.{Traced}
+use Rattle.ep_rules.specs.EntryPoint.Configuration.{Config}
+use Rattle.ep_base.specs.Streams.Io.{AppendsPrefix}
+use Rattle.ep_claim.specs.Lanes.ReplayRun as traces
+use Rattle.ep_rules.specs.EntryPoint.Talk.{Talk}
+use Rattle.ep_claim.specs.Text.TraceLine.{TraceLine}
 use Rattle.lane_replay.specs.Replayed.{IsFirst}
 use Rattle.lane_replay.specs.Shows.{all_talks}
-use Rattle.lane_replay.specs.WholeReplay.{ReplayEnds}
+use Rattle.ep_claim.specs.Lanes.WholeReplay.{ReplayEnds}
 use Rattle.lane_replay.proofs.Differing.{mismatches_differ_law}
 use Rattle.lane_replay.proofs.Stopping.{one_end_law}
 use Rattle.lane_report.specs.Works.{LaneWork, new_work, talk_in}
@@ -34,23 +34,23 @@ module _ {V : Type 0} (items : V → List Work) where
   pub works_are_first : (lanes : List V) (works : List LaneWork) → works ≡ map (λ lane. new_work (items lane)) lanes → All IsFirst works
   works_are_first lanes works is = subst (All IsFirst) (sym is) (first lanes)
 
-  talks : (settings : Settings) (lanes : List V)
+  talks : (settings : Config) (lanes : List V)
       → all_talks settings (map (λ lane. new_work (items lane)) lanes) ≡ map (λ lane. map (talk_in settings) lane) (map items lanes)
   talks settings [] = refl
   talks settings (lane ∷ rest) = ap (λ ts. map (talk_in settings) (items lane) ∷ ts) (talks settings rest)
 
-  pub talks_to_come : (settings : Settings) (lanes : List V) (works : List LaneWork) → works ≡ map (λ lane. new_work (items lane)) lanes
+  pub talks_to_come : (settings : Config) (lanes : List V) (works : List LaneWork) → works ≡ map (λ lane. new_work (items lane)) lanes
       → all_talks settings works ≡ map (λ lane. map (talk_in settings) lane) (map items lanes)
   talks_to_come settings lanes works is = ap (all_talks settings) is ∙ talks settings lanes
 
 -- ---- a replay's text
 
-differ_by : (s : Scene) (lines : List Traced) (mismatch : Option traces.Mismatch) (text : List ℕ)
+differ_by : (s : Scene) (lines : List TraceLine) (mismatch : Option traces.Mismatch) (text : List ℕ)
     → ReplayEnds s.fsdi s.turns lines (talks_in s) mismatch text → IfSome mismatch (λ (m : traces.Mismatch). m.wanted ≢ m.got)
 differ_by s lines None text ends = tt
 differ_by s lines (Some m) text ends = mismatches_differ_law s.fsdi s.turns lines (talks_in s) m text ends
 
-is_text : (s : Scene) (lines : List Traced) (mismatch : Option traces.Mismatch) (text : List ℕ)
+is_text : (s : Scene) (lines : List TraceLine) (mismatch : Option traces.Mismatch) (text : List ℕ)
     → ReplayEnds s.fsdi s.turns lines (talks_in s) mismatch text → IsReplayText s lines mismatch text
 is_text s lines mismatch text ends = record {
   ends = ends;
@@ -59,7 +59,7 @@ is_text s lines mismatch text ends = record {
 }
 
 -- What was written of a scene's lanes, where its turn list, its trace lines and its transactions are these.
-module _ (s : Scene) (lines : List Traced) (before after : Option (List ℕ)) (turns : List ℕ) (trace : List Traced) (jobs : List (List Talk))
+module _ (s : Scene) (lines : List TraceLine) (before after : Option (List ℕ)) (turns : List ℕ) (trace : List TraceLine) (jobs : List (List Talk))
     (same_turns : turns ≡ s.turns) (same_trace : trace ≡ lines) (same_jobs : jobs ≡ talks_in s) where
   ends_in : (mismatch : Option traces.Mismatch) (text : List ℕ) → ReplayEnds s.fsdi turns trace jobs mismatch text
       → ReplayEnds s.fsdi s.turns lines (talks_in s) mismatch text
@@ -82,10 +82,10 @@ module _ (s : Scene) (lines : List Traced) (before after : Option (List ℕ)) (t
 
 -- ---- a document that was read
 
-with_lines : (members : Members) (p : Plan) (r : Result (List Traced) Fault) → plan members ≡ Ok p → trace_lines p.trace ≡ r
+with_lines : (members : Members) (p : Plan) (r : Result (List TraceLine) Fault) → plan members ≡ Ok p → trace_lines p.trace ≡ r
     → replay_plan members ≡ (r >>= λ ls. Ok (p, ls))
 with_lines members p r read is =
-    ap (λ (x : Result Plan Fault). x >>= λ q. trace_lines q.trace >>= λ ls. Ok (q, ls)) read ∙ ap (λ (x : Result (List Traced) Fault). x >>= λ ls. Ok (p, ls)) is
+    ap (λ (x : Result Plan Fault). x >>= λ q. trace_lines q.trace >>= λ ls. Ok (q, ls)) read ∙ ap (λ (x : Result (List TraceLine) Fault). x >>= λ ls. Ok (p, ls)) is
 
 module _ (input : Option (List ℕ)) (before after : Option (List ℕ)) where
   of_plan : (p : Plan) → Gives input p → (status : Status) → Plays (scene_of p) before after status → Replays input before after status

@@ -4,23 +4,23 @@ use Rattle.std.specs.Prelude.{All, if◌then◌else◌}
 use Rattle.std.proofs.lemmas.List.{length-map}
 use Rattle.std.proofs.lemmas.List.Sums.{length-filter}
 use Rattle.std.proofs.lemmas.List.Elements.{All-nil, All-head, All-tail, All-weaker}
-use Rattle.ep_base.specs.Configuration.{Combination, Settings, count_of}
-use Rattle.ep_base.specs.Kernel.{steps_left, running_left, running_count, scripted}
-use Rattle.ep_base.specs.PreProcessing.{prepared_one, prepared}
-use Rattle.law_run.specs.Bounds.{AtMost, AtMostStarts, log_bound}
+use Rattle.ep_rules.specs.EntryPoint.Configuration.{Combination, Config, count_of}
+use Rattle.ep_rules.specs.EntryPoint.Kernel.{steps_left, running_left, running_count, scripted}
+use Rattle.ep_rules.specs.EntryPoint.PreProcessing.{prepared_one, prepared}
+use Rattle.ep_rules.specs.EntryPoint.Bounds.{AtMost, AtMostStarts, log_bound}
 use Rattle.law_run.proofs.Bounding.{few_commands_lem, few_starts_lem}
 use Rattle.law_run.proofs.Scripting.{scripts_fall_lem}
 use Rattle.law_run.proofs.Legal.{scripted_lem}
-use Rattle.law_lane.specs.Standing.{Standing, started}
-use Rattle.law_lane.specs.Exchanges.{Lane}
-use Rattle.law_turns.specs.Bounds.{heard_in, counts_after, NextFits, IsUnderWay}
-use Rattle.law_turns.specs.Counting.{IsBounded, after_all, exchanges_most}
-use Rattle.law_turns.specs.Ending.{AreOverAfter, LanesOverAfter}
-use Rattle.law_turns.specs.LaneText.{Job, Going}
-use Rattle.law_turns.specs.Logs.{LogFits}
-use Rattle.law_turns.specs.Pieces.{of_lane, pieces_after}
-use Rattle.law_turns.specs.Telling.{jobs_of, job_after, Stands, LaneTells}
-use Rattle.law_turns.specs.WholeRun.{ProbeSteps, open_probe, Run, opened_run, run_after}
+use Rattle.ep_claim.specs.Lanes.Standing.{Standing, started}
+use Rattle.ep_claim.specs.Lanes.Exchanges.{Lane}
+use Rattle.ep_claim.specs.Promise.Counts.{heard_in, counts_after, NextFits, IsUnderWay}
+use Rattle.ep_claim.specs.Lanes.Counting.{IsBounded, after_all, exchanges_most}
+use Rattle.ep_claim.specs.Lanes.Ending.{AreOverAfter, LanesOverAfter}
+use Rattle.ep_claim.specs.Lanes.LaneText.{Job, Going}
+use Rattle.ep_claim.specs.Promise.Logs.{LogFits}
+use Rattle.ep_claim.specs.Lanes.Pieces.{of_lane, pieces_after}
+use Rattle.ep_claim.specs.Lanes.Telling.{jobs_of, job_after, Stands, LaneTells}
+use Rattle.ep_claim.specs.Lanes.WholeRun.{ProbeSteps, open_probe, Run, opened_run, run_after}
 use Rattle.law_turns.proofs.Bounding.{transaction_few}
 use Rattle.law_turns.proofs.Counted.{bounded_count_law}
 use Rattle.law_turns.proofs.Counting.{every_exchange_counts_law}
@@ -31,8 +31,8 @@ use Rattle.law_turns.proofs.Telling.{keeps_in_run_law}
 use Rattle.lane_report.specs.Works.{preparation, talk_in, job_of}
 use Rattle.scenario.specs.Scene.{Work, Scene}
 use Rattle.ep_program.specs.Headline.{jobs_in, IsFresh, IsReady}
-use Rattle.ep_program.specs.Promise.{GivesOn}
-use Rattle.law_turns.specs.Keeping.{cards_in}
+use Rattle.ep_claim.specs.Promise.Run.{GivesOn}
+use Rattle.ep_claim.specs.Promise.Transaction.{cards_in}
 use Rattle.ep_program.specs.Bounded.{commands_most, starts_most, works_of, IsInWork, StaysWithin, exchanges_of, IsBoundedRun, HasFreeRecord, KeepsRecordsFree}
 use Rattle.ep_program.proofs.Promising.{opened_after, may_begin}
 
@@ -40,14 +40,14 @@ no_more : (n : ℕ) → n + 0 ≡ n
 no_more n = omega arith
 
 -- Pre-Processing leaves as many Combinations as the configuration has of the type.
-prepared_count : (settings : Settings) (txn_type amount : ℕ) → length (prepared settings txn_type amount) ≡ count_of txn_type settings.list
+prepared_count : (settings : Config) (txn_type amount : ℕ) → length (prepared settings txn_type amount) ≡ count_of txn_type settings.list
 prepared_count settings txn_type amount =
     length-map (filter (λ (c : Combination). c.txn_type == txn_type) settings.list) (prepared_one settings.exponent amount)
     ∙ length-filter (λ (c : Combination). c.txn_type == txn_type) settings.list
 
 -- ---- the bounds of one transaction
 
-module _ (settings : Settings) (fsdi : ℕ) where
+module _ (settings : Config) (fsdi : ℕ) where
   abbrev Begins : Work → Type 0
   Begins w = IsFresh settings fsdi w
 

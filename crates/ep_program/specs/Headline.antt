@@ -1,13 +1,13 @@
 -- The transactions of a document's lanes, and when they may begin (this project's own).
 use Rattle.std.specs.Prelude.{ℕ, ◌<◌, ◌≤◌, All, List, length, map, None}
-use Rattle.ep_base.specs.Configuration.{Settings}
-use Rattle.ep_base.specs.Field.{Field}
-use Rattle.ep_base.specs.Radio.{Radio}
-use Rattle.ep_base.specs.Kernel.{scripted}
-use Rattle.law_run.specs.Bounds.{log_bound}
-use Rattle.law_radio.specs.Opening.{number_in, image_in}
-use Rattle.law_radio.specs.OverRadio.{IsNew}
-use Rattle.law_turns.specs.LaneText.{Job}
+use Rattle.ep_rules.specs.EntryPoint.Configuration.{Config}
+use Rattle.ep_base.specs.Cards.Field.{Field}
+use Rattle.ep_base.specs.Poll.Radio.{Radio}
+use Rattle.ep_rules.specs.EntryPoint.Kernel.{scripted}
+use Rattle.ep_rules.specs.EntryPoint.Bounds.{log_bound}
+use Rattle.ep_claim.specs.Promise.Cards.{number_in, image_in}
+use Rattle.ep_claim.specs.Promise.Perfection.{IsNew}
+use Rattle.ep_claim.specs.Lanes.LaneText.{Job}
 use Rattle.scenario.specs.Scene.{Work, Scene}
 use Rattle.lane_report.specs.Reports.{IsFew}
 use Rattle.lane_report.specs.Works.{preparation, job_of}
@@ -22,7 +22,7 @@ radio_before fsdi w = record { medium = w.field; fsdi = fsdi; link = None }
 
 -- A transaction that may begin: its radio is new, its kernels follow few scripts, which send commands, and its log has room for more than these
 -- (this project's own).
-pub record IsFresh (settings : Settings) (fsdi : ℕ) (w : Work) : Type 0 where
+pub record IsFresh (settings : Config) (fsdi : ℕ) (w : Work) : Type 0 where
   pub new : IsNew (number_in w.field.cards) (image_in w.field.cards) (radio_before fsdi w)
   pub few : IsFew settings w
   pub room : log_bound (scripted.restarts w.scripts) (length (preparation settings w).list) (scripted.commands w.scripts) < w.field.room

@@ -2,7 +2,6 @@ pub mod Bounded
 pub mod Headline
 pub mod Input
 pub mod Load
-pub mod Promise
 pub mod Replay
 pub mod Serve
 pub mod Status

@@ -2,9 +2,9 @@
 use Rattle.std.specs.Prelude.{◌≡◌, ℕ, List}
 use Rattle.std.specs.declared.option.Option.{Option}
 use Rattle.std.specs.Io.KnownBytes.{Appends, Keeps}
-use Rattle.ep_base.specs.Io.{AppendsPrefix}
+use Rattle.ep_base.specs.Streams.Io.{AppendsPrefix}
 use Rattle.ep_load.specs.Load.{generated}
-use Rattle.law_turns.specs.LaneText.{Job}
+use Rattle.ep_claim.specs.Lanes.LaneText.{Job}
 use Rattle.load_run.specs.Counts.{Counts, IsTotal, jobs_in}
 use Rattle.load_run.specs.Summary.{summary_line_of}
 use Rattle.scenario.specs.Scene.{scene_of}

@@ -2,8 +2,8 @@
 use Rattle.std.specs.Prelude.{◌≡◌, ℕ, Bool, true, false, List, Some, None}
 use Rattle.std.specs.declared.option.Option.{Option}
 use Rattle.std.specs.Io.KnownBytes.{Appends, Keeps}
-use Rattle.ep_base.specs.Io.{AppendsPrefix}
-use Rattle.law_turns.specs.WholeRun.{ProbeSteps}
+use Rattle.ep_base.specs.Streams.Io.{AppendsPrefix}
+use Rattle.ep_claim.specs.Lanes.WholeRun.{ProbeSteps}
 use Rattle.ep_lanes.specs.Probing.{ProbeAnswers}
 use Rattle.lane_report.specs.Reports.{HasRun}
 use Rattle.lane_report.specs.Shows.{Tells}
@@ -13,7 +13,7 @@ use Rattle.ep_program.specs.Bounded.{IsBoundedRun, KeepsRecordsFree}
 use Rattle.ep_program.specs.Headline.{jobs_in}
 use Rattle.ep_program.specs.Input.{Gives, Refuses}
 use Rattle.ep_program.specs.Load.{Loads}
-use Rattle.ep_program.specs.Promise.{GivesOn, HasPromise}
+use Rattle.ep_claim.specs.Promise.Run.{GivesOn, HasPromise}
 use Rattle.ep_program.specs.Replay.{Replays}
 use Rattle.ep_program.specs.declared.status.Status.{Status}
 use Rattle.ep_program.specs.declared.status.Status.TheVariants.{Done, ReadFault, WriteFault, NoMemory, Usage, TooLong, NotToml, BadDocument, Mismatch}

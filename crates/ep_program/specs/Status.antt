@@ -1,6 +1,6 @@
 -- The numbers and the texts of the ways in which the program ends (this project's own).
 use Rattle.std.specs.Prelude.{ℕ, List, []}
-use Rattle.ep_base.specs.FaultText.{read_fault, write_fault, no_memory, usage, too_long, not_toml}
+use Rattle.ep_claim.specs.Text.FaultText.{read_fault, write_fault, no_memory, usage, too_long, not_toml}
 use Rattle.report_text.specs.FaultWords.{document_fault}
 use Rattle.trace_io.specs.MismatchText.{mismatch_text}
 use Rattle.ep_program.specs.declared.status.Status.{Status}

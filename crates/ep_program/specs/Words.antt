@@ -3,8 +3,8 @@ use Rattle.std.specs.Prelude.{codes, ℕ, ◌≤◌, ◌&&◌, Bool, true, false
 use Rattle.std.specs.Str.{all_ascii_digits}
 use Rattle.std.specs.Str.Parse.{digits_value}
 use Rattle.std.specs.declared.alloc.Global.{Global}
-use Rattle.ep_base.specs.Apdu.{same_bytes}
-use Rattle.ep_base.specs.TraceLine.{◌>>=◌}
+use Rattle.ep_base.specs.Cards.Apdu.{same_bytes}
+use Rattle.ep_base.specs.Streams.Words.{◌>>=◌}
 use Rattle.doc_table.specs.Read.{is_within}
 use Rattle.ep_program.specs.declared.form.Form.{Form}
 use Rattle.ep_program.specs.declared.form.Form.TheVariants.{Run, RunTrace, Replay, Load}

@@ -1,8 +1,8 @@
 //! The input.
 ghost use Rattle.std.specs.Prelude.{◌≡◌, IfOk, IfErr, IsErrOf, MatchResult, OnOk};
 ghost use Rattle.std.specs.Io.KnownBytes.{IsAtEnd};
-ghost use Rattle.ep_base.specs.Causes.{HasCause};
-ghost use Rattle.ep_base.specs.Io.{Takes};
+ghost use Rattle.ep_base.specs.Streams.Causes.{HasCause};
+ghost use Rattle.ep_base.specs.Streams.Io.{Takes};
 ghost use Rattle.ep_program.specs.Input.{IsTooLong, Opens, Refuses};
 
 use crate::status::Status;

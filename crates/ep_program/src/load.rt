@@ -1,6 +1,6 @@
 //! A generated load.
 ghost use Rattle.std.specs.Prelude.{◌≡◌, ◌≤◌};
-ghost use Rattle.ep_base.specs.Causes.{HasCause};
+ghost use Rattle.ep_base.specs.Streams.Causes.{HasCause};
 ghost use Rattle.ep_program.specs.Load.{Loads};
 
 use crate::status::Status;

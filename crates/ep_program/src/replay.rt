@@ -1,8 +1,8 @@
 //! The replay of a document's trace.
 ghost use Rattle.std.specs.Prelude.{◌≡◌};
 ghost use Rattle.std.specs.Io.KnownBytes.{IsAtEnd};
-ghost use Rattle.ep_base.specs.Causes.{HasCause};
-ghost use Rattle.ep_base.specs.Io.{Takes};
+ghost use Rattle.ep_base.specs.Streams.Causes.{HasCause};
+ghost use Rattle.ep_base.specs.Streams.Io.{Takes};
 ghost use Rattle.ep_program.specs.Headline.{IsReady};
 ghost use Rattle.ep_program.specs.Input.{IsTooLong};
 ghost use Rattle.ep_program.specs.Replay.{Plays, Replays};

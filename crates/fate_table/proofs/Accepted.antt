@@ -5,7 +5,7 @@ use Rattle.std.proofs.lemmas.List.{length-replicate}
 use Rattle.std.proofs.lemmas.List.Elements.{All-nil, All-cons, All-head, All-tail}
 use Rattle.std.proofs.lemmas.Bool.Decides.{nat_tests}
 use Rattle.toml.specs.Data.{Items, as_array, as_str}
-use Rattle.ep_base.specs.Air.{Passage, ArePassages}
+use Rattle.ep_base.specs.Air.Fates.{Fate, ArePassages}
 use Rattle.rf_field.specs.declared.fates.FateRun.{FateRun}
 use Rattle.rf_field.specs.Meaning.{clean_passage, run_of, passages, IsRun}
 use Rattle.doc_table.specs.Fault.{Fault}
@@ -39,13 +39,13 @@ accepted_told : Accepts told_run IsSome
 accepted_told = record {
   is = λ path d exchanges e.
       after (of_kind path (as_str d)) _ exchanges e (λ text _ e1.
-      after (allowed path (pos (length text)) (passage_spelled text)) (λ (passage : Passage). Ok (passage ∷ [])) exchanges e1 (λ passage is e2.
+      after (allowed path (pos (length text)) (passage_spelled text)) (λ (passage : Fate). Ok (passage ∷ [])) exchanges e1 (λ passage is e2.
       let bounds = passage_is text passage (allowed_ok path (pos (length text)) (passage_spelled text) passage is) in
       let same : passage ∷ [] ≡ exchanges = cc in
       subst IsSome same (record { some = omega arith; bursts = (bounds.0, bounds.1, tt) })));
 }
 
-either : (b : Bool) (x y : Result (List Passage) Fault) (exchanges : List Passage) → (if b then x else y) ≡ Ok exchanges → (x ≡ Ok exchanges → IsSome exchanges) → (y ≡ Ok exchanges → IsSome exchanges) → IsSome exchanges
+either : (b : Bool) (x y : Result (List Fate) Fault) (exchanges : List Fate) → (if b then x else y) ≡ Ok exchanges → (x ≡ Ok exchanges → IsSome exchanges) → (y ≡ Ok exchanges → IsSome exchanges) → IsSome exchanges
 either true x y exchanges e is_x is_y = is_x e
 either false x y exchanges e is_x is_y = is_y e
 
@@ -66,14 +66,14 @@ accepted_runs = record {
       after (counted 0 4096 path elements) _ exchanges e1 (λ few _ e2. (accepted_each run IsSome path 1 few exchanges accepted_run e2).0));
 }
 
-accepted_elements : (place : Place) (elements : List (List Passage)) → defaulted [] runs (codes "fates") place ≡ Ok elements → All IsSome elements
+accepted_elements : (place : Place) (elements : List (List Fate)) → defaulted [] runs (codes "fates") place ≡ Ok elements → All IsSome elements
 accepted_elements place elements e = accepted_defaulted runs (All IsSome) [] (codes "fates") place elements accepted_runs (All-nil IsSome) e
 
 -- The bursts of a transaction's fates are within their bounds.
-pub accepted_fates : (place : Place) (exchanges : List Passage) → fates_at place ≡ Ok exchanges → ArePassages exchanges
+pub accepted_fates : (place : Place) (exchanges : List Fate) → fates_at place ≡ Ok exchanges → ArePassages exchanges
 accepted_fates place exchanges e =
-    after (defaulted [] runs (codes "fates") place) (λ (elements : List (List Passage)). Ok (flat_map (λ (xs : List Passage). xs) elements)) exchanges e (λ elements is e1.
-    let same : flat_map (λ (xs : List Passage). xs) elements ≡ exchanges = cc in
+    after (defaulted [] runs (codes "fates") place) (λ (elements : List (List Fate)). Ok (flat_map (λ (xs : List Fate). xs) elements)) exchanges e (λ elements is e1.
+    let same : flat_map (λ (xs : List Fate). xs) elements ≡ exchanges = cc in
     subst ArePassages same (all_joined elements (accepted_elements place elements is)))
 
 -- The elements of a list of fates, as runs.

@@ -2,18 +2,18 @@
 use Rattle.std.proofs.Common.{◌≡◌, ℕ, suc, zero, ◌<◌, List, [], ◌∷◌, ◌++◌, length, map, replicate, refl, ap, arith}
 use Rattle.std.specs.Prelude.{All, flat_map}
 use Rattle.std.proofs.lemmas.List.Elements.{All-nil, All-cons, All-head, All-tail}
-use Rattle.ep_base.specs.Air.{Passage, ArePassages}
+use Rattle.ep_base.specs.Air.Fates.{Fate, ArePassages}
 use Rattle.rf_field.specs.declared.fates.FateRun.{FateRun}
 use Rattle.rf_field.specs.declared.fates.FateRun.TheVariants.{Clean, One}
 use Rattle.rf_field.specs.Meaning.{IsRun, clean_passage, run_of, passages}
 
 -- All runs' exchanges are the exchanges of each run, joined.
-pub joined : (runs : List FateRun) → flat_map (λ (exchanges : List Passage). exchanges) (map run_of runs) ≡ passages runs
+pub joined : (runs : List FateRun) → flat_map (λ (exchanges : List Fate). exchanges) (map run_of runs) ≡ passages runs
 joined [] = refl
 joined (run ∷ runs) = ap (λ rest. run_of run ++ rest) (joined runs)
 
 -- At least one exchange, and bursts within their bounds.
-pub record IsSome (exchanges : List Passage) : Type 0 where
+pub record IsSome (exchanges : List Fate) : Type 0 where
   pub some : 0 < length exchanges
   pub bursts : ArePassages exchanges
 
@@ -30,10 +30,10 @@ pub clean : (n : ℕ) → ArePassages (replicate n clean_passage)
 clean zero = tt
 clean (suc n) = (tt, tt, clean n)
 
-append : (xs ys : List Passage) → ArePassages xs → ArePassages ys → ArePassages (xs ++ ys)
+append : (xs ys : List Fate) → ArePassages xs → ArePassages ys → ArePassages (xs ++ ys)
 append [] ys hx hy = hy
 append (x ∷ xs) ys hx hy = (hx.0, hx.1, append xs ys hx.2 hy)
 
-pub all_joined : (runs : List (List Passage)) → All IsSome runs → ArePassages (flat_map (λ (exchanges : List Passage). exchanges) runs)
+pub all_joined : (runs : List (List Fate)) → All IsSome runs → ArePassages (flat_map (λ (exchanges : List Fate). exchanges) runs)
 all_joined [] h = tt
-all_joined (run ∷ runs) h = append run (flat_map (λ (exchanges : List Passage). exchanges) runs) (All-head IsSome run runs h).bursts (all_joined runs (All-tail IsSome run runs h))
+all_joined (run ∷ runs) h = append run (flat_map (λ (exchanges : List Fate). exchanges) runs) (All-head IsSome run runs h).bursts (all_joined runs (All-tail IsSome run runs h))

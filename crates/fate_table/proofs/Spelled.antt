@@ -4,9 +4,9 @@ use Rattle.std.specs.Prelude.{slice_index}
 use Rattle.hex.specs.Hex.{decode_of}
 use Rattle.hex.specs.declared.error.FromHexError.{FromHexError}
 use Rattle.hex.proofs.HexLemmas.{decode_of-ok}
-use Rattle.ep_base.specs.Air.{Leg, Passes, Loses, Bursts, Leaves, IsLeg, Passage}
-use Rattle.ep_base.specs.Apdu.{same_bytes}
-use Rattle.ep_base.specs.TraceLine.{◌>>=◌, cut}
+use Rattle.ep_base.specs.Air.Fates.{Way, Passes, Loses, Bursts, Leaves, IsLeg, Fate}
+use Rattle.ep_base.specs.Cards.Apdu.{same_bytes}
+use Rattle.ep_base.specs.Streams.Words.{◌>>=◌, cut}
 use Rattle.doc_table.specs.Read.{is_within, sized}
 use Rattle.fate_table.specs.Tokens.{start_spelled, mask_of, mask_spelled, cut_at_colon, after_letter, burst_spelled, leg_spelled, passage_spelled}
 
@@ -28,7 +28,7 @@ mask_by digits (Err f) mask is e = cc
 mask_small : (digits : List ℕ) (mask : ℕ) → mask_spelled digits ≡ Some mask → mask < 2 ^ 16
 mask_small digits mask e = mask_by digits (decode_of digits) mask refl e
 
-burst_is : (token : List ℕ) (leg : Leg) → burst_spelled token ≡ Some leg → IsLeg leg
+burst_is : (token : List ℕ) (leg : Way) → burst_spelled token ≡ Some leg → IsLeg leg
 burst_is token leg e =
     after_some (after_letter token) _ leg e (λ text _ e1.
     after_some (cut_at_colon text) _ leg e1 (λ parts _ e2.
@@ -37,22 +37,22 @@ burst_is token leg e =
     let same : Bursts start mask ≡ leg = cc in
     subst IsLeg same (mask_small parts.1 mask is)))))
 
-leg_by : (passes loses leaves : Bool) (burst : Option Leg) (leg : Leg) → ((l : Leg) → burst ≡ Some l → IsLeg l) → (if passes then Some Passes else (if loses then Some Loses else (if leaves then Some Leaves else burst))) ≡ Some leg → IsLeg leg
+leg_by : (passes loses leaves : Bool) (burst : Option Way) (leg : Way) → ((l : Way) → burst ≡ Some l → IsLeg l) → (if passes then Some Passes else (if loses then Some Loses else (if leaves then Some Leaves else burst))) ≡ Some leg → IsLeg leg
 leg_by true loses leaves burst leg is e = let same : Passes ≡ leg = cc in subst IsLeg same tt
 leg_by false true leaves burst leg is e = let same : Loses ≡ leg = cc in subst IsLeg same tt
 leg_by false false true burst leg is e = let same : Leaves ≡ leg = cc in subst IsLeg same tt
 leg_by false false false burst leg is e = is leg e
 
-leg_is : (token : List ℕ) (leg : Leg) → leg_spelled token ≡ Some leg → IsLeg leg
+leg_is : (token : List ℕ) (leg : Way) → leg_spelled token ≡ Some leg → IsLeg leg
 leg_is token leg e = leg_by (same_bytes token (codes "-")) (same_bytes token (codes "x")) (same_bytes token (codes "v")) (burst_spelled token) leg (burst_is token) e
 
 -- The bursts of an exchange that is spelled are within their bounds.
-pub passage_is : (text : List ℕ) (passage : Passage) → passage_spelled text ≡ Some passage → IsLeg passage.down × IsLeg passage.up
+pub passage_is : (text : List ℕ) (passage : Fate) → passage_spelled text ≡ Some passage → IsLeg passage.down × IsLeg passage.up
 unfolding passage_spelled
 passage_is text passage e =
     after_some (cut text) _ passage e (λ parts _ e1.
     after_some (leg_spelled parts.0) _ passage e1 (λ down is_down e2.
     after_some (leg_spelled parts.1) (λ up. Some (record { down = down; up = up })) passage e2 (λ up is_up e3.
-    let made : Passage = record { down = down; up = up } in
+    let made : Fate = record { down = down; up = up } in
     let same : made ≡ passage = cc in
-    subst (λ (p : Passage). IsLeg p.down × IsLeg p.up) same (leg_is parts.0 down is_down, leg_is parts.1 up is_up))))
+    subst (λ (p : Fate). IsLeg p.down × IsLeg p.up) same (leg_is parts.0 down is_down, leg_is parts.1 up is_up))))

@@ -1,7 +1,7 @@
 -- The key `fates` of a transaction (this project's own).
 use Rattle.std.specs.Prelude.{codes, pos, List, [], ◌∷◌, length, replicate, flat_map, Result, Ok, if◌then◌else◌}
 use Rattle.toml.specs.Data.{as_array, as_str}
-use Rattle.ep_base.specs.Air.{Passage}
+use Rattle.ep_base.specs.Air.Fates.{Fate}
 use Rattle.rf_field.specs.Meaning.{clean_passage}
 use Rattle.doc_table.specs.Fault.{Fault}
 use Rattle.doc_table.specs.declared.list.ElementKind.TheVariants.{Integer}
@@ -9,31 +9,31 @@ use Rattle.doc_table.specs.Read.{◌>>=◌, Reader, Place, of_kind, allowed, def
 use Rattle.fate_table.specs.Tokens.{passage_spelled}
 
 -- So many exchanges in which all frames pass, 1 to 1000000 (this project's own).
-abbrev pub clean_run : Reader (List Passage)
+abbrev pub clean_run : Reader (List Fate)
 clean_run path d = do
   count ← integer_in 1 1000000 path d
   Ok (replicate count clean_passage)
 
 -- The one exchange that a text tells of (this project's own).
-abbrev pub told_run : Reader (List Passage)
+abbrev pub told_run : Reader (List Fate)
 told_run path d = do
   text ← of_kind path (as_str d)
   passage ← allowed path (pos (length text)) (passage_spelled text)
   Ok (passage ∷ [])
 
 -- An element of the list: an integer or a text (this project's own).
-abbrev pub run : Reader (List Passage)
+abbrev pub run : Reader (List Fate)
 run path d = if is_of Integer d then clean_run path d else told_run path d
 
 -- At most 4096 elements, each read wholly before the next (this project's own).
-abbrev pub runs : Reader (List (List Passage))
+abbrev pub runs : Reader (List (List Fate))
 runs path d = do
   elements ← of_kind path (as_array d)
   few ← counted 0 4096 path elements
   each run path 1 few
 
 -- The fates of a transaction's exchanges: those of each element, one after another, and none where the key is absent (this project's own).
-abbrev pub fates_at : Place → Result (List Passage) Fault
+abbrev pub fates_at : Place → Result (List Fate) Fault
 fates_at place = do
   elements ← defaulted [] runs (codes "fates") place
   Ok (flat_map (λ exchanges. exchanges) elements)

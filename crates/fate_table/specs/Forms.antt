@@ -2,7 +2,7 @@
 use Rattle.std.specs.Prelude.{◌≡◌, codes, ℕ, ◌+◌, ◌*◌, ◌≤◌, ◌↔◌, List, [], ◌∷◌, ◌++◌, length, Ok, Some}
 use Rattle.std.specs.Str.Parse.{AllDigits, digits_value}
 use Rattle.hex.specs.Hex.{decode_of}
-use Rattle.ep_base.specs.Air.{Leg, Passes, Loses, Bursts, Leaves, Passage}
+use Rattle.ep_base.specs.Air.Fates.{Way, Passes, Loses, Bursts, Leaves, Fate}
 use Rattle.fate_table.specs.Tokens.{passage_spelled}
 
 -- The start of a burst: 1 to 4 decimal digits of a number that is at most 4095 (this project's own).
@@ -29,14 +29,14 @@ pub record SpellsBurst (token : List ℕ) (start mask : ℕ) : Type 0 where
   pub inverts : SpellsMask bits mask
 
 -- What becomes of one frame: a sign, or a burst (this project's own).
-abbrev pub SpellsLeg : List ℕ → Leg → Type 0
+abbrev pub SpellsLeg : List ℕ → Way → Type 0
 SpellsLeg token Passes = token ≡ codes "-"
 SpellsLeg token Loses = token ≡ codes "x"
 SpellsLeg token (Bursts start mask) = SpellsBurst token start mask
 SpellsLeg token Leaves = token ≡ codes "v"
 
 -- A text spells what becomes of the frames of one exchange: first the reader's frame, one space, then the answer (this project's own).
-pub record SpellsPassage (text : List ℕ) (passage : Passage) : Type 0 where
+pub record SpellsPassage (text : List ℕ) (passage : Fate) : Type 0 where
   pub down : List ℕ
   pub up : List ℕ
   pub parts : text ≡ down ++ codes " " ++ up
@@ -45,4 +45,4 @@ pub record SpellsPassage (text : List ℕ) (passage : Passage) : Type 0 where
 
 -- A text is read exactly where it spells what is read (this project's own).
 abbrev pub OneReading : Type 0
-OneReading = (text : List ℕ) (passage : Passage) → (passage_spelled text ≡ Some passage) ↔ SpellsPassage text passage
+OneReading = (text : List ℕ) (passage : Fate) → (passage_spelled text ≡ Some passage) ↔ SpellsPassage text passage

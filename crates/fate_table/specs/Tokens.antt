@@ -5,9 +5,9 @@ use Rattle.std.specs.List.{before_first, after_first, position_or_len}
 use Rattle.std.specs.Str.{all_ascii_digits}
 use Rattle.std.specs.Str.Parse.{digits_value}
 use Rattle.hex.specs.Hex.{decode_of}
-use Rattle.ep_base.specs.Air.{Leg, Passes, Loses, Bursts, Leaves, Passage}
-use Rattle.ep_base.specs.Apdu.{same_bytes}
-use Rattle.ep_base.specs.TraceLine.{◌>>=◌, cut}
+use Rattle.ep_base.specs.Air.Fates.{Way, Passes, Loses, Bursts, Leaves, Fate}
+use Rattle.ep_base.specs.Cards.Apdu.{same_bytes}
+use Rattle.ep_base.specs.Streams.Words.{◌>>=◌, cut}
 use Rattle.doc_table.specs.Read.{is_within, sized}
 
 -- 1 to 4 decimal digits of a number that is at most 4095 (this project's own).
@@ -40,7 +40,7 @@ after_letter [] = None
 after_letter (c ∷ rest) = if c == 98 then Some rest else None
 
 -- A burst: the letter b, its start, a colon, and its bits (this project's own).
-abbrev pub burst_spelled : List ℕ → Option Leg
+abbrev pub burst_spelled : List ℕ → Option Way
 burst_spelled token = do
   text ← after_letter token
   parts ← cut_at_colon text
@@ -49,7 +49,7 @@ burst_spelled token = do
   Some (Bursts start mask)
 
 -- What becomes of one frame: a dash where it passes, x where it is lost, v where the cards leave, or a burst (this project's own).
-abbrev pub leg_spelled : List ℕ → Option Leg
+abbrev pub leg_spelled : List ℕ → Option Way
 leg_spelled token =
     if same_bytes token (codes "-") then Some Passes
     else (if same_bytes token (codes "x") then Some Loses
@@ -57,7 +57,7 @@ leg_spelled token =
     else burst_spelled token))
 
 -- What becomes of the frames of one exchange: that of the reader's frame, one space, and that of the answer (this project's own).
-unfoldable pub passage_spelled : List ℕ → Option Passage
+unfoldable pub passage_spelled : List ℕ → Option Fate
 passage_spelled text = do
   parts ← cut text
   down ← leg_spelled parts.0

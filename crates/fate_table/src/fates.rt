@@ -1,7 +1,7 @@
 //! The list of fates.
 ghost use Rattle.std.specs.Prelude.{◌≡◌, ◌+◌, ◌≤◌, length, All, IfOk};
 ghost use Rattle.toml.specs.View.{view};
-ghost use Rattle.ep_base.specs.Air.{ArePassages};
+ghost use Rattle.ep_base.specs.Air.Fates.{ArePassages};
 ghost use Rattle.rf_field.specs.Meaning.{IsRun, passages, run_of};
 ghost use Rattle.doc_table.specs.Read.{Gives, GivesIfRoom};
 ghost use Rattle.doc_table.specs.Section.{place};
@@ -32,13 +32,13 @@ struct FateList;
 
 impl Read for FateList {
     ghost use Rattle.std.specs.Prelude.{List, map};
-    ghost use Rattle.ep_base.specs.Air.{Passage};
+    ghost use Rattle.ep_base.specs.Air.Fates.{Fate};
     ghost use Rattle.rf_field.specs.Meaning.{run_of};
     ghost use Rattle.fate_table.specs.Fates.{runs};
 
     type Out = Vec<FateRun>;
 
-    ghost Meaning = { List (List Passage) };
+    ghost Meaning = { List (List Fate) };
 
     ghost seen = { λ v. map run_of v.items };
 
@@ -63,13 +63,13 @@ struct FateElement;
 
 impl Read for FateElement {
     ghost use Rattle.std.specs.Prelude.{List};
-    ghost use Rattle.ep_base.specs.Air.{Passage};
+    ghost use Rattle.ep_base.specs.Air.Fates.{Fate};
     ghost use Rattle.rf_field.specs.Meaning.{run_of};
     ghost use Rattle.fate_table.specs.Fates.{run};
 
     type Out = FateRun;
 
-    ghost Meaning = { List Passage };
+    ghost Meaning = { List Fate };
 
     ghost seen = { run_of };
 

@@ -12,7 +12,7 @@ const LAST_START: u32 = 4095;
 
 /// What becomes of the frames of one exchange: two tokens with one space between, first that of the reader's frame.
 /// `None` where the text has another form.
-#[tactic(auto, unfolding(crate::specs::Tokens::passage_spelled, ep_base::specs::TraceLine::cut))]
+#[tactic(auto, unfolding(crate::specs::Tokens::passage_spelled, ep_base::specs::Streams::Words::cut))]
 pub(crate) fn fate_spelled(text: &str) -> Option<Fate>
     ensures { option_map passage_of result ≡ passage_spelled text.now }
 {

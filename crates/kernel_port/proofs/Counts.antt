@@ -4,8 +4,8 @@ use Rattle.std.specs.Prelude.{Some, None, if◌then◌else◌}
 use Rattle.std.specs.declared.option.Option.{Option}
 use Rattle.ep_base.specs.declared.outcome.OutcomeKind.{OutcomeKind}
 use Rattle.ep_base.specs.declared.outcome.OutcomeKind.TheVariants.{SelectNext, TryAgain, Approved, Declined, OnlineRequest, TryAnother, EndApplication}
-use Rattle.ep_base.specs.Said.{Verdict}
-use Rattle.ep_base.specs.Kernel.{Move, Done, Script, Step, Awaited, Running, Scripted, scripted, goes_on, answered, running_step, steps_left, running_left, running_count, script_for, without_script, begun}
+use Rattle.ep_rules.specs.EntryPoint.Event.{Verdict}
+use Rattle.ep_rules.specs.EntryPoint.Kernel.{KernelStep, Done, Script, Step, Awaited, Running, Scripted, scripted, goes_on, answered, running_step, steps_left, running_left, running_count, script_for, without_script, begun}
 use Rattle.kernel_port.specs.Kernels.{RestartsFall, CountsFall}
 
 fall_one : (d : OutcomeKind) (m n : ℕ) → n < m → RestartsFall d m n
@@ -21,7 +21,7 @@ fall_one EndApplication m n lt = omega arith
 abbrev at : List Script → Option Running → Scripted
 at scripts running = record { scripts = scripts; running = running }
 
-abbrev Falls : List Script → Option Running → Move × Option Running → Type 0
+abbrev Falls : List Script → Option Running → KernelStep × Option Running → Type 0
 Falls scripts running p = CountsFall scripted p.0 (at scripts running) (at scripts p.1)
 
 goes_at : (scripts : List Script) (r : Running) (v : Verdict) (steps : List Step) → r.steps ≡ steps → Falls scripts (Some r) (goes_on v steps)
@@ -32,14 +32,14 @@ answered_at : (scripts : List Script) (r : Running) (awaited : Option Awaited) (
 answered_at scripts r None last = goes_at scripts r r.verdict r.steps refl
 answered_at scripts r (Some x) None = goes_at scripts r r.verdict r.steps refl
 answered_at scripts r (Some x) (Some a) =
-    elim (Rattle.ep_base.specs.Apdu.status_of a == x.want) as (λ b. Falls scripts (Some r) (if b then goes_on r.verdict r.steps else (Done x.other, None)))
+    elim (Rattle.ep_base.specs.Cards.Apdu.status_of a == x.want) as (λ b. Falls scripts (Some r) (if b then goes_on r.verdict r.steps else (Done x.other, None)))
     [ true ↦ goes_at scripts r r.verdict r.steps refl | false ↦ (omega arith, fall_one x.other.kind _ _ (omega arith)) ]
 
 step_at : (scripts : List Script) (running : Option Running) (last : Option (List ℕ)) → Falls scripts running (running_step running last)
 step_at scripts None last = (omega arith, omega arith)
 step_at scripts (Some r) last = answered_at scripts r r.awaited last
 
-pub counts_fall : (scripts : List Script) (running next : Option Running) (last : Option (List ℕ)) (m : Move) → (m, next) ≡ running_step running last
+pub counts_fall : (scripts : List Script) (running next : Option Running) (last : Option (List ℕ)) (m : KernelStep) → (m, next) ≡ running_step running last
     → CountsFall scripted m (at scripts running) (at scripts next)
 counts_fall scripts running next last m e = subst (Falls scripts running) (sym e) (step_at scripts running last)
 

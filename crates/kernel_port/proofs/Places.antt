@@ -3,7 +3,7 @@ use Rattle.std.proofs.Common.{◌≡◌, ◌==◌, ℕ, ◌+◌, ◌<◌, ◌≤
 use Rattle.std.specs.Prelude.{Some, None, if◌then◌else◌}
 use Rattle.std.specs.List.{position_or_len}
 use Rattle.std.proofs.lemmas.Grind.{common_steps}
-use Rattle.ep_base.specs.Kernel.{Script, script_for, without_script}
+use Rattle.ep_rules.specs.EntryPoint.Kernel.{Script, script_for, without_script}
 
 abbrev place_of : ℕ → List Script → ℕ
 place_of kernel scripts = position_or_len (λ s. s.kernel == kernel) scripts

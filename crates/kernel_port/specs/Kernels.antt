@@ -2,8 +2,8 @@
 use Rattle.std.specs.Prelude.{ℕ, ◌<◌, ◌≤◌, Bool, true, false}
 use Rattle.ep_base.specs.declared.outcome.OutcomeKind.{OutcomeKind}
 use Rattle.ep_base.specs.declared.outcome.OutcomeKind.TheVariants.{SelectNext, TryAgain, Approved, Declined, OnlineRequest, TryAnother, EndApplication}
-use Rattle.ep_base.specs.Kernel.{Move, KernelSteps}
-use Rattle.ep_base.specs.Kernel as plain
+use Rattle.ep_rules.specs.EntryPoint.Kernel.{KernelStep as Move, KernelSteps}
+use Rattle.ep_rules.specs.EntryPoint.Kernel as plain
 use Rattle.kernel_port.specs.declared.kernels.KernelStep.{KernelStep}
 use Rattle.kernel_port.specs.declared.kernels.KernelStep.TheVariants.{Send, Done}
 use Rattle.kernel_port.specs.Outcome.{verdict_of}

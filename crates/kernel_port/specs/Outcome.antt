@@ -1,5 +1,5 @@
 -- What an outcome stands for in plain data.
-use Rattle.ep_base.specs.Said.{Verdict}
+use Rattle.ep_rules.specs.EntryPoint.Event.{Verdict}
 use Rattle.kernel_port.specs.declared.outcome.Outcome.{Outcome}
 
 abbrev pub verdict_of : Outcome → Verdict

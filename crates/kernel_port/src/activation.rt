@@ -24,7 +24,7 @@ pub struct Activation {
 }
 
 impl Model for Activation {
-    ghost use Rattle.ep_base.specs.Said.{Given};
+    ghost use Rattle.ep_rules.specs.EntryPoint.Event.{Activation as Given};
 
     ghost Value = { Given };
 

@@ -1,7 +1,7 @@
 //! Kernels as a session sees them.
 ghost use Rattle.std.specs.Prelude.{◌≡◌, ◌≤◌, Bool, true, false, is_none};
 ghost use Rattle.std.specs.Option.{option_copied};
-ghost use Rattle.ep_base.specs.Kernel.{KernelSteps};
+ghost use Rattle.ep_rules.specs.EntryPoint.Kernel.{KernelSteps};
 
 use crate::{Activation, Outcome};
 use apdu::{Command, Response};

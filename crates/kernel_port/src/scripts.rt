@@ -1,7 +1,7 @@
 //! Kernels that follow scripts.
 ghost use Rattle.std.specs.Prelude.{◌≡◌, ◌==◌, None, position, drop};
 ghost use Rattle.std.specs.Option.{option_copied};
-ghost use Rattle.ep_base.specs.Kernel.{script_for, without_script, begun, goes_on, answered, running_step};
+ghost use Rattle.ep_rules.specs.EntryPoint.Kernel.{script_for, without_script, begun, goes_on, answered, running_step};
 ghost use Rattle.kernel_port.specs.Kernels.{move_of};
 ghost use Rattle.kernel_port.specs.Outcome.{verdict_of};
 
@@ -21,7 +21,7 @@ pub struct Step {
 }
 
 impl Model for Step {
-    ghost use Rattle.ep_base.specs.Kernel.{Step as StepData};
+    ghost use Rattle.ep_rules.specs.EntryPoint.Kernel.{Step as StepData};
     ghost use Rattle.kernel_port.specs.Outcome.{verdict_of};
 
     ghost Value = { StepData };
@@ -41,7 +41,7 @@ pub struct Script {
 }
 
 impl Model for Script {
-    ghost use Rattle.ep_base.specs.Kernel.{Script as ScriptData};
+    ghost use Rattle.ep_rules.specs.EntryPoint.Kernel.{Script as ScriptData};
     ghost use Rattle.kernel_port.specs.Outcome.{verdict_of};
 
     ghost Value = { ScriptData };
@@ -57,7 +57,7 @@ struct Awaited {
 }
 
 impl Model for Awaited {
-    ghost use Rattle.ep_base.specs.Kernel.{Awaited as AwaitedData};
+    ghost use Rattle.ep_rules.specs.EntryPoint.Kernel.{Awaited as AwaitedData};
     ghost use Rattle.kernel_port.specs.Outcome.{verdict_of};
 
     ghost Value = { AwaitedData };
@@ -76,7 +76,7 @@ struct Running {
 
 impl Model for Running {
     ghost use Rattle.std.specs.Prelude.{drop};
-    ghost use Rattle.ep_base.specs.Kernel.{Running as RunningData};
+    ghost use Rattle.ep_rules.specs.EntryPoint.Kernel.{Running as RunningData};
     ghost use Rattle.kernel_port.specs.Outcome.{verdict_of};
 
     ghost Value = { RunningData };
@@ -208,7 +208,7 @@ fn next(running: Option<Running>, last: Option<&Response>) -> (KernelStep, Optio
 }
 
 impl Kernels for Scripts {
-    ghost use Rattle.ep_base.specs.Kernel.{Scripted, scripted};
+    ghost use Rattle.ep_rules.specs.EntryPoint.Kernel.{Scripted, scripted};
     ghost use Rattle.kernel_port.specs.Scripts.{scripted_of};
 
     ghost State = { Scripted };

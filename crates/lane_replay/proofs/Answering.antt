@@ -2,19 +2,19 @@
 use Rattle.std.proofs.Common.{◌≡◌, ℕ, ◌<◌, Bool, true, false, refl, ap, subst, arith, Option, Some, None, is_some}
 use Rattle.std.specs.Prelude.{if◌then◌else◌}
 use Rattle.std.proofs.lemmas.Option.{slice_get_within}
-use Rattle.ep_base.specs.Hearing.{Asked, Hearing}
-use Rattle.ep_base.specs.ReplayRun.{Mismatch, Replaying, at_lane, compared, failing, next_line, same_shown, sends_unless, took}
-use Rattle.ep_base.specs.TraceLine.{Shown, Traced}
+use Rattle.ep_base.specs.Air.Heard.{Ask, Heard}
+use Rattle.ep_claim.specs.Lanes.ReplayRun.{Mismatch, Replaying, at_lane, compared, failing, next_line, same_shown, sends_unless, took}
+use Rattle.ep_claim.specs.Text.TraceLine.{Shown, TraceLine}
 use Rattle.lane_replay.specs.Turned.{lines_left}
-use Rattle.lane_replay.specs.WholeReplay.{answered}
+use Rattle.ep_claim.specs.Lanes.WholeReplay.{answered}
 
 -- a line is taken with each answer, and without one the trace has failed
-abbrev pub AnswerIs : Replaying → Option Hearing × Replaying → Type 0
+abbrev pub AnswerIs : Replaying → Option Heard × Replaying → Type 0
 AnswerIs s (None, t) = is_some t.failure ≡ true
 AnswerIs s (Some heard, t) = (t.failure ≡ None) × (lines_left t < lines_left s)
 
 module _ (got : Shown) (s : Replaying) where
-  by_line : (l : Option Traced) → next_line s ≡ l → s.failure ≡ None → AnswerIs s (compared got l s)
+  by_line : (l : Option TraceLine) → next_line s ≡ l → s.failure ≡ None → AnswerIs s (compared got l s)
   by_line None at well = refl
   by_line (Some line) at well =
       let within = slice_get_within s.lines s.taken line at in
@@ -27,9 +27,9 @@ module _ (got : Shown) (s : Replaying) where
   by_failure None well = by_line (next_line s) refl well
   by_failure (Some m) failed = ap is_some failed
 
-pub answer_is : (lane : ℕ) (ask : Asked) (s : Replaying) → AnswerIs s (answered lane ask s)
+pub answer_is : (lane : ℕ) (ask : Ask) (s : Replaying) → AnswerIs s (answered lane ask s)
 answer_is lane ask s =
     by_failure (record { lane = lane; wave = ask.wave; frame = ask.bytes; wait = ask.wait }) (at_lane lane s) s.failure refl
 
-pub answer_of : (lane : ℕ) (ask : Asked) (s : Replaying) (a : Option Hearing × Replaying) → answered lane ask s ≡ a → AnswerIs s a
-answer_of lane ask s a e = subst (λ (a : Option Hearing × Replaying). AnswerIs s a) e (answer_is lane ask s)
+pub answer_of : (lane : ℕ) (ask : Ask) (s : Replaying) (a : Option Heard × Replaying) → answered lane ask s ≡ a → AnswerIs s a
+answer_of lane ask s a e = subst (λ (a : Option Heard × Replaying). AnswerIs s a) e (answer_is lane ask s)

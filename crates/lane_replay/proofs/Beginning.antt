@@ -2,21 +2,21 @@
 use Rattle.std.proofs.Common.{◌≡◌, ℕ, ◌+◌, List, [], ◌∷◌, ◌++◌, map, refl, sym, ap, subst, ◌∙◌, true, false}
 use Rattle.std.specs.Prelude.{Option, Some, None, is_some}
 use Rattle.std.proofs.lemmas.List.{append-nil}
-use Rattle.ep_base.specs.Configuration.{Settings}
-use Rattle.ep_base.specs.Hearing.{Asked}
-use Rattle.ep_base.specs.Kernel.{Scripted}
-use Rattle.ep_base.specs.PreProcessing.{prepared}
-use Rattle.ep_base.specs.Said.{Said}
-use Rattle.ep_base.specs.Talk.{Talk}
-use Rattle.ep_base.specs.WrittenText.{event_lines}
+use Rattle.ep_rules.specs.EntryPoint.Configuration.{Config}
+use Rattle.ep_base.specs.Air.Heard.{Ask}
+use Rattle.ep_rules.specs.EntryPoint.Kernel.{Scripted}
+use Rattle.ep_rules.specs.EntryPoint.PreProcessing.{prepared}
+use Rattle.ep_rules.specs.EntryPoint.Event.{Said}
+use Rattle.ep_rules.specs.EntryPoint.Talk.{Talk}
+use Rattle.ep_claim.specs.Text.WrittenText.{event_lines}
 use Rattle.entry_session.specs.Perfect.{talk_of}
-use Rattle.law_lane.specs.Standing.{asked_by, events_of, started}
+use Rattle.ep_claim.specs.Lanes.Standing.{asked_by, events_of, started}
 use Rattle.ep_lanes.specs.Lanes.{LaneHeld, no_lane}
 use Rattle.pre_processing.specs.Preparation.{Preparation}
 use Rattle.scenario.specs.Scene.{Work}
 use Rattle.lane_report.specs.Works.{LaneWork, talk_in}
 use Rattle.lane_report.proofs.Beginning.{same_talk}
-use Rattle.lane_replay.specs.LaneText.{Piece, opens, opens_by}
+use Rattle.ep_claim.specs.Lanes.ReplayText.{Piece, opens, opens_by}
 use Rattle.lane_replay.specs.Shows.{IsOpened, ShowsLane, talks_of}
 use Rattle.lane_replay.specs.Turned.{BegunLane}
 
@@ -25,7 +25,7 @@ abbrev pub first_text : (lane txn : ℕ) → Talk → List ℕ
 first_text lane txn talk = event_lines lane txn (events_of talk (started talk))
 
 -- the lines of its events are those of the talk that is begun
-pub begun_is : (settings : Settings) (lane txn : ℕ) (w v : Work) (p : Preparation) (said : List Said) → w ≡ v
+pub begun_is : (settings : Config) (lane txn : ℕ) (w v : Work) (p : Preparation) (said : List Said) → w ≡ v
     → p.list ≡ prepared settings w.txn_type w.amount → p.txn_type ≡ w.txn_type → p.amount ≡ w.amount
     → said ≡ events_of (talk_of p w.scripts) (started (talk_of p w.scripts))
     → event_lines lane txn said ≡ first_text lane txn (talk_in settings v)
@@ -34,27 +34,27 @@ begun_is settings lane txn w v p said e l t a told =
 
 module _ (lane txn : ℕ) (talk : Talk) where
   -- what comes after the events of a transaction that is begun
-  abbrev pub begun_more : Option Asked → Piece → List ℕ
+  abbrev pub begun_more : Option Ask → Piece → List ℕ
   begun_more (Some ask) rest = []
   begun_more None rest = rest.text
 
-  pub opens_split : (left : List Talk) (rest : Piece) (o : Option Asked) → (opens_by lane txn talk left rest o).text ≡ first_text lane txn talk ++ begun_more o rest
+  pub opens_split : (left : List Talk) (rest : Piece) (o : Option Ask) → (opens_by lane txn talk left rest o).text ≡ first_text lane txn talk ++ begun_more o rest
   opens_split left rest (Some ask) = sym (append-nil (first_text lane txn talk))
   opens_split left rest None = refl
 
-  pub more_passed : (rest : Piece) (o : Option Asked) → false ≡ is_some o → begun_more o rest ≡ rest.text
+  pub more_passed : (rest : Piece) (o : Option Ask) → false ≡ is_some o → begun_more o rest ≡ rest.text
   more_passed rest None e = refl
   more_passed rest (Some ask) e = let never : false ≡ true = e in cc
 
-  pub more_none : (rest : Piece) (o : Option Asked) → true ≡ is_some o → begun_more o rest ≡ []
+  pub more_none : (rest : Piece) (o : Option Ask) → true ≡ is_some o → begun_more o rest ≡ []
   more_none rest (Some ask) e = refl
   more_none rest None e = let never : true ≡ false = e in cc
 
-  pub waiting_passed : (left : List Talk) (rest : Piece) (o : Option Asked) → false ≡ is_some o → (opens_by lane txn talk left rest o).waiting ≡ rest.waiting
+  pub waiting_passed : (left : List Talk) (rest : Piece) (o : Option Ask) → false ≡ is_some o → (opens_by lane txn talk left rest o).waiting ≡ rest.waiting
   waiting_passed left rest None e = refl
   waiting_passed left rest (Some ask) e = let never : false ≡ true = e in cc
 
-module _ (settings : Settings) (fsdi lane : ℕ) where
+module _ (settings : Config) (fsdi lane : ℕ) where
   -- the piece with which a lane's next transactions are opened
   abbrev pub here : LaneWork → Piece
   here work = opens fsdi lane (work.txn + 1) (talks_of settings work)
@@ -63,7 +63,7 @@ module _ (settings : Settings) (fsdi lane : ℕ) where
     abbrev talk : Talk
     talk = talk_in settings w
 
-    abbrev first : Option Asked
+    abbrev first : Option Ask
     first = asked_by fsdi (started talk).doing
 
     next_is : here work ≡ opens_by lane taken.txn talk (talks_of settings taken) (here taken) first
@@ -93,7 +93,7 @@ module _ (settings : Settings) (fsdi lane : ℕ) where
       pub text_begun : BegunLane settings fsdi w held true → (here work).text ≡ first_text lane taken.txn talk ++ []
       text_begun b = text_split ∙ ap (λ l. first_text lane taken.txn talk ++ l) (more_none lane taken.txn talk (here taken) first b.asked)
 
-      shows_by : BegunLane settings fsdi w held true → held.live ≡ true → (o : Option Asked) → first ≡ o → true ≡ is_some o
+      shows_by : BegunLane settings fsdi w held true → held.live ≡ true → (o : Option Ask) → first ≡ o → true ≡ is_some o
           → ShowsLane settings fsdi held taken (opens_by lane taken.txn talk (talks_of settings taken) (here taken) o).waiting
       shows_by b live (Some ask) is e = record { live = live; opened = b.opened; stands = b.stands; asks = is; number = refl; left = refl }
       shows_by b live None is e = let never : true ≡ false = e in cc

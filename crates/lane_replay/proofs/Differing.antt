@@ -1,13 +1,13 @@
 -- A mismatch tells two things that differ.
 use Rattle.std.proofs.Common.{◌≡◌, ◌≢◌, ℕ, zero, suc, Bool, true, false, length, refl, sym, subst, ◌∙◌, Option, Some, None}
 use Rattle.std.specs.Prelude.{if◌then◌else◌}
-use Rattle.ep_base.specs.Hearing.{Asked, Hearing}
-use Rattle.ep_base.specs.Lanes.{times}
-use Rattle.ep_base.specs.ReplayRun.{Mismatch, Replaying, at_lane, compared, ends_unless, failing, left_over, next_line, same_shown, sends_unless, took}
-use Rattle.ep_base.specs.TraceLine.{Shown, Traced}
+use Rattle.ep_base.specs.Air.Heard.{Ask, Heard}
+use Rattle.ep_claim.specs.Lanes.Steps.{times}
+use Rattle.ep_claim.specs.Lanes.ReplayRun.{Mismatch, Replaying, at_lane, compared, ends_unless, failing, left_over, next_line, same_shown, sends_unless, took}
+use Rattle.ep_claim.specs.Text.TraceLine.{Shown, TraceLine}
 use Rattle.lane_report.proofs.Closing.{some_same}
 use Rattle.lane_replay.specs.Stopping.{MismatchesDiffer}
-use Rattle.lane_replay.specs.WholeReplay.{LaneReplay, answered, opened_replay, replay_after, replay_step}
+use Rattle.ep_claim.specs.Lanes.WholeReplay.{LaneReplay, answered, opened_replay, replay_after, replay_step}
 use Rattle.lane_replay.proofs.Matching.{shown_self}
 use Rattle.lane_replay.proofs.Stepping.{by_step}
 
@@ -17,7 +17,7 @@ Apart None = Unit {0}
 Apart (Some m) = m.wanted ≢ m.got
 
 -- so does that of a trace after an answer
-abbrev ApartAfter : Option Hearing × Replaying → Type 0
+abbrev ApartAfter : Option Heard × Replaying → Type 0
 ApartAfter a = Apart a.1.failure
 
 none_some : (s : Shown) → None ≢ Some s
@@ -33,7 +33,7 @@ other_shown a b differs e =
     absurd (let never : ⊥ = cc in never)
 
 module _ (got : Shown) (s : Replaying) (apart : Apart s.failure) where
-  by_line : (l : Option Traced) → ApartAfter (compared got l s)
+  by_line : (l : Option TraceLine) → ApartAfter (compared got l s)
   by_line None = none_some got
   by_line (Some line) =
       elim (same_shown line.sent got) as (λ (b : Bool). same_shown line.sent got ≡ b
@@ -47,7 +47,7 @@ module _ (got : Shown) (s : Replaying) (apart : Apart s.failure) where
   by_failure (Some m) = apart
 
 module _ (s : Replaying) (apart : Apart s.failure) where
-  by_left : (l : Option Traced) → Apart (left_over l s).1.failure
+  by_left : (l : Option TraceLine) → Apart (left_over l s).1.failure
   by_left None = apart
   by_left (Some line) = some_none line.sent
 
@@ -55,9 +55,9 @@ module _ (s : Replaying) (apart : Apart s.failure) where
   by_end None = by_left (next_line s)
   by_end (Some m) = apart
 
-answer_apart : (lane : ℕ) (ask : Asked) (s : Replaying) (a : Option Hearing × Replaying) → answered lane ask s ≡ a → Apart s.failure → ApartAfter a
+answer_apart : (lane : ℕ) (ask : Ask) (s : Replaying) (a : Option Heard × Replaying) → answered lane ask s ≡ a → Apart s.failure → ApartAfter a
 answer_apart lane ask s a e apart =
-    subst (λ (x : Option Hearing × Replaying). ApartAfter x) e
+    subst (λ (x : Option Heard × Replaying). ApartAfter x) e
     (by_failure (record { lane = lane; wave = ask.wave; frame = ask.bytes; wait = ask.wait }) (at_lane lane s) apart s.failure)
 
 step_apart : (fsdi count : ℕ) (r : LaneReplay) → Apart r.trace.failure → Apart (replay_step fsdi count r).trace.failure

@@ -1,16 +1,16 @@
 -- From opened lanes and their turns to the replay's end.
 use Rattle.std.proofs.Common.{◌≡◌, ℕ, ◌+◌, Bool, true, false, List, ◌++◌, length, refl, sym, ap, subst, ◌∙◌, arith, Option, Some, None, is_some}
 use Rattle.std.proofs.lemmas.List.{length-map}
-use Rattle.ep_base.specs.Configuration.{Settings}
-use Rattle.ep_base.specs.Io.{AppendsPrefix}
-use Rattle.ep_base.specs.ReplayRun.{Mismatch, Replaying, ends_unless, finishes, left_over, next_line}
-use Rattle.ep_base.specs.Talk.{Talk}
-use Rattle.ep_base.specs.TraceLine.{Traced}
+use Rattle.ep_rules.specs.EntryPoint.Configuration.{Config}
+use Rattle.ep_base.specs.Streams.Io.{AppendsPrefix}
+use Rattle.ep_claim.specs.Lanes.ReplayRun.{Mismatch, Replaying, ends_unless, finishes, left_over, next_line}
+use Rattle.ep_rules.specs.EntryPoint.Talk.{Talk}
+use Rattle.ep_claim.specs.Text.TraceLine.{TraceLine}
 use Rattle.lane_report.proofs.Appending.{prefix_front, wrote_since}
 use Rattle.lane_replay.specs.Made.{EndCut, EndShown, TurnsCut, TurnsMade}
 use Rattle.lane_replay.specs.Replayed.{LanesOpened, Replayed, ReplayedPart}
 use Rattle.lane_replay.specs.Shows.{ReplayState, all_talks, talks_of}
-use Rattle.lane_replay.specs.WholeReplay.{LaneReplay, first_mismatch, opened_replay, opening_text, replay_after}
+use Rattle.ep_claim.specs.Lanes.WholeReplay.{LaneReplay, first_mismatch, opened_replay, opening_text, replay_after}
 use Rattle.lane_replay.proofs.Stopping.{replays_stop_law, texts_grow_law}
 
 -- The end holds a failure exactly where it isn't well.
@@ -18,7 +18,7 @@ abbrev EndIs : Bool × Replaying → Type 0
 EndIs (true, t) = t.failure ≡ None
 EndIs (false, t) = is_some t.failure ≡ true
 
-by_left : (l : Option Traced) (s : Replaying) → s.failure ≡ None → EndIs (left_over l s)
+by_left : (l : Option TraceLine) (s : Replaying) → s.failure ≡ None → EndIs (left_over l s)
 by_left None s well = well
 by_left (Some line) s well = refl
 
@@ -35,7 +35,7 @@ ends_well s t b e is = subst (λ x. EndIs (x, t)) is (end_is s (b, t) e)
 pub ends_ill : (s t : Replaying) (b : Bool) → finishes s ≡ (b, t) → b ≡ false → is_some t.failure ≡ true
 ends_ill s t b e is = subst (λ x. EndIs (x, t)) is (end_is s (b, t) e)
 
-module _ (settings : Settings) (fsdi : ℕ) (turns : List ℕ) (before opened : ReplayState) (size : length opened.works ≡ length before.works)
+module _ (settings : Config) (fsdi : ℕ) (turns : List ℕ) (before opened : ReplayState) (size : length opened.works ≡ length before.works)
     (begun : LanesOpened settings fsdi turns before opened) where
   abbrev talks : List (List Talk)
   talks = all_talks settings before.works
@@ -69,7 +69,7 @@ module _ (settings : Settings) (fsdi : ℕ) (turns : List ℕ) (before opened : 
       (first_mismatch last, last.text, record { exchanges = end.exchanges; stopped = end.stopped; mismatch_is = refl; text_is = refl }, end.part)
 
 -- Where the lanes weren't all opened.
-pub replay_unopened : (settings : Settings) (fsdi : ℕ) (turns : List ℕ) (before : ReplayState) (written : Option (List ℕ))
+pub replay_unopened : (settings : Config) (fsdi : ℕ) (turns : List ℕ) (before : ReplayState) (written : Option (List ℕ))
     → AppendsPrefix before.written written (opening_text fsdi 1 (all_talks settings before.works)) → ReplayedPart settings fsdi turns before written
 replay_unopened settings fsdi turns before written part =
     let lines = before.trace.lines in

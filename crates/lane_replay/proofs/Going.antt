@@ -2,24 +2,24 @@
 use Rattle.std.proofs.Common.{◌≡◌, ℕ, ◌+◌, List, [], true, false, refl, sym, ap, subst, ◌∙◌}
 use Rattle.std.specs.Prelude.{Option, Some, None, is_some}
 use Rattle.std.specs.Io.KnownBytes.{Appends}
-use Rattle.ep_base.specs.Configuration.{Settings}
-use Rattle.ep_base.specs.Hearing.{Asked}
-use Rattle.ep_base.specs.Io.{AppendsPrefix}
-use Rattle.ep_base.specs.Kernel.{Scripted}
-use Rattle.law_lane.specs.Standing.{Standing, asked_by}
+use Rattle.ep_rules.specs.EntryPoint.Configuration.{Config}
+use Rattle.ep_base.specs.Air.Heard.{Ask}
+use Rattle.ep_base.specs.Streams.Io.{AppendsPrefix}
+use Rattle.ep_rules.specs.EntryPoint.Kernel.{Scripted}
+use Rattle.ep_claim.specs.Lanes.Standing.{Standing, asked_by}
 use Rattle.ep_lanes.specs.Lanes.{LaneHeld}
 use Rattle.ep_lanes.specs.declared.exchange.Turned.{Turned}
 use Rattle.ep_lanes.specs.declared.exchange.Turned.TheVariants.{Goes, Ended}
 use Rattle.lane_report.specs.Works.{LaneWork}
 use Rattle.lane_report.proofs.Texts.{whole_nothing}
-use Rattle.lane_replay.specs.LaneText.{Piece, Waiting, goes_on, opens}
+use Rattle.ep_claim.specs.Lanes.ReplayText.{Piece, Waiting, goes_on, opens}
 use Rattle.lane_replay.specs.Shows.{ShowsLane, talks_of}
 use Rattle.lane_replay.specs.Turned.{GoesOn, GoesOnPart, IsAfter, Wrote}
 use Rattle.lane_replay.proofs.Beginning.{here}
 
-module _ (settings : Settings) (fsdi lane : ℕ) (held : LaneHeld Scripted) (work : LaneWork) where
+module _ (settings : Config) (fsdi lane : ℕ) (held : LaneHeld Scripted) (work : LaneWork) where
   goes_by : (w : Waiting) (s : Standing) → held.live ≡ true → is_some held.transaction ≡ true → IsAfter settings fsdi held work Goes w s → (a : Option (List ℕ))
-      → (o : Option Asked) → asked_by fsdi s.doing ≡ o → is_some o ≡ true → Wrote settings fsdi held work a a (goes_on fsdi lane w s o)
+      → (o : Option Ask) → asked_by fsdi s.doing ≡ o → is_some o ≡ true → Wrote settings fsdi held work a a (goes_on fsdi lane w s o)
   goes_by w s live opened h a (Some ask) is e = record {
     text = whole_nothing a [] refl;
     shows = record { live = live; opened = opened; stands = h.stands; asks = is; number = h.number; left = h.left };

@@ -3,46 +3,46 @@ use Rattle.std.proofs.Common.{◌≡◌, ℕ, ◌<◌, Bool, true, false, List, 
 use Rattle.std.specs.Prelude.{Option, Some, None}
 use Rattle.std.specs.Io.KnownBytes.{Appends}
 use Rattle.std.proofs.Math.Seq.{drop-append_seam}
-use Rattle.ep_base.specs.Configuration.{Settings}
-use Rattle.ep_base.specs.Hearing.{Asked, Hearing}
-use Rattle.ep_base.specs.Io.{AppendsPrefix}
-use Rattle.ep_base.specs.Kernel.{Scripted, scripted}
-use Rattle.ep_base.specs.Medium.{told, AfterReset, ExchangesBy, Exchanges}
-use Rattle.ep_base.specs.ReplayRun.{Replaying, at_lane, replay}
-use Rattle.ep_base.specs.Said.{Said}
-use Rattle.ep_base.specs.WrittenText.{event_lines}
-use Rattle.law_lane.specs.Standing.{Standing, asked_by, events_of, after_hearing}
-use Rattle.law_turns.specs.LaneText.{added}
+use Rattle.ep_rules.specs.EntryPoint.Configuration.{Config}
+use Rattle.ep_base.specs.Air.Heard.{Ask, Heard}
+use Rattle.ep_base.specs.Streams.Io.{AppendsPrefix}
+use Rattle.ep_rules.specs.EntryPoint.Kernel.{Scripted, scripted}
+use Rattle.ep_base.specs.Air.Medium.{told, AfterReset, ExchangesBy, Exchanges}
+use Rattle.ep_claim.specs.Lanes.ReplayRun.{Replaying, at_lane, replay}
+use Rattle.ep_rules.specs.EntryPoint.Event.{Said}
+use Rattle.ep_claim.specs.Text.WrittenText.{event_lines}
+use Rattle.ep_claim.specs.Lanes.Standing.{Standing, asked_by, events_of, after_hearing}
+use Rattle.ep_claim.specs.Lanes.LaneText.{added}
 use Rattle.ep_lanes.specs.Lanes.{Held, LaneHeld, OpenTransaction, lane_of}
 use Rattle.ep_lanes.specs.declared.exchange.Turned.{Turned}
 use Rattle.ep_lanes.proofs.Standing.{asks_then}
 use Rattle.lane_report.specs.Works.{LaneWork}
 use Rattle.lane_report.proofs.Appending.{whole_next, part_next, part_front}
 use Rattle.lane_report.proofs.Closing.{some_same}
-use Rattle.lane_replay.specs.LaneText.{Piece, Waiting, goes_on, heard_piece}
+use Rattle.ep_claim.specs.Lanes.ReplayText.{Piece, Waiting, goes_on, heard_piece}
 use Rattle.lane_replay.specs.Shows.{ShowsWaiting}
 use Rattle.lane_replay.specs.Turned.{HeardLine, HeardPart, IsAfter, LaneHeard, LaneDiffers, OtherLine, Wrote, lines_left}
-use Rattle.lane_replay.specs.WholeReplay.{answered}
+use Rattle.ep_claim.specs.Lanes.WholeReplay.{answered}
 use Rattle.lane_replay.proofs.Answering.{answer_of}
 
 -- What a trace answers where it may answer so: a reset does nothing.
-after_reset : (well : Bool) (ask : Asked) (u t : Replaying) (h : Option Hearing) → true ≡ well → AfterReset (told replay) well u ask h t
+after_reset : (well : Bool) (ask : Ask) (u t : Replaying) (h : Option Heard) → true ≡ well → AfterReset (told replay) well u ask h t
     → replay.send u ask.wave ask.bytes ask.wait ≡ (h, t)
 after_reset true ask u t h is e = e
 after_reset false ask u t h is e = let never : true ≡ false = is in cc
 
-by_reset : (b : Bool) (ask : Asked) (s t : Replaying) (h : Option Hearing) → ExchangesBy (told replay) b s ask h t
+by_reset : (b : Bool) (ask : Ask) (s t : Replaying) (h : Option Heard) → ExchangesBy (told replay) b s ask h t
     → replay.send s ask.wave ask.bytes ask.wait ≡ (h, t)
 by_reset false ask s t h e = e
 by_reset true ask s t h e =
     subst (λ (u : Replaying). replay.send u ask.wave ask.bytes ask.wait ≡ (h, t)) (sym (ap (λ (r : Bool × Replaying). r.1) e.2))
     (after_reset e.0 ask e.1 t h (ap (λ (r : Bool × Replaying). r.0) e.2) e.3)
 
-answers_so : (ask : Asked) (s t : Replaying) (h : Option Hearing) → Exchanges (told replay) s ask h t → replay.send s ask.wave ask.bytes ask.wait ≡ (h, t)
+answers_so : (ask : Ask) (s t : Replaying) (h : Option Heard) → Exchanges (told replay) s ask h t → replay.send s ask.wave ask.bytes ask.wait ≡ (h, t)
 answers_so ask s t h e = by_reset ask.reset ask s t h e
 
 -- What a lane asks is what the replay's lane asks.
-asks_is : (settings : Settings) (fsdi : ℕ) (held : LaneHeld Scripted) (work : LaneWork) (w : Waiting) → ShowsWaiting settings fsdi held work w
+asks_is : (settings : Config) (fsdi : ℕ) (held : LaneHeld Scripted) (work : LaneWork) (w : Waiting) → ShowsWaiting settings fsdi held work w
     → (t : OpenTransaction Scripted) → held.transaction ≡ Some t → t.asks ≡ w.asks
 asks_is settings fsdi held work w shows t was =
     some_same t.asks w.asks (sym (asks_then scripted w.talk fsdi w.standing held t was shows.stands) ∙ shows.asks)
@@ -53,7 +53,7 @@ pub line_fewer : (lane : ℕ) (before after : Held Scripted) (s t : Replaying) (
 line_fewer lane before after s t turned said turn =
     (answer_of lane turn.made.asked s _ (answers_so turn.made.asked (at_lane lane s) t (Some turn.makes.given) turn.makes.exchange)).1
 
-module _ (settings : Settings) (fsdi lane : ℕ) (work : LaneWork) (w : Waiting) (s t : Replaying) where
+module _ (settings : Config) (fsdi lane : ℕ) (work : LaneWork) (w : Waiting) (s t : Replaying) where
   -- it asked something else
   pub turn_differs : (before after : LaneHeld Scripted) → OtherLine lane before s after t → ShowsWaiting settings fsdi before work w
       → (held : LaneHeld Scripted) (next : LaneWork) (written : Option (List ℕ))
@@ -62,7 +62,7 @@ module _ (settings : Settings) (fsdi lane : ℕ) (work : LaneWork) (w : Waiting)
   turn_differs before after fails shows held next written = record {
     line =
         answers_so w.asks (at_lane lane s) t None
-        (subst (λ (a : Asked). Exchanges (told replay) (at_lane lane s) a None t)
+        (subst (λ (a : Ask). Exchanges (told replay) (at_lane lane s) a None t)
         (asks_is settings fsdi before work w shows fails.transaction fails.was) fails.exchange);
     wrote = refl;
   }
@@ -70,20 +70,20 @@ module _ (settings : Settings) (fsdi lane : ℕ) (work : LaneWork) (w : Waiting)
   -- it asked what the line says
   module _ (before after : Held Scripted) (turned : Turned) (said : List Said) (turn : HeardLine lane before s turned said after t)
       (shows : ShowsWaiting settings fsdi (lane_of before lane) work w) where
-    abbrev heard : Hearing
+    abbrev heard : Heard
     heard = turn.made.heard
 
     ask_is : turn.made.asked ≡ w.asks
     ask_is = turn.makes.asked ∙ asks_is settings fsdi (lane_of before lane) work w shows turn.makes.transaction turn.makes.was
 
     given_is : turn.makes.given ≡ heard
-    given_is = ap (λ (r : Unit {0} × Hearing). r.1) turn.makes.heard
+    given_is = ap (λ (r : Unit {0} × Heard). r.1) turn.makes.heard
 
     line_is : answered lane w.asks s ≡ (Some heard, t)
     line_is =
         answers_so w.asks (at_lane lane s) t (Some heard)
-        (subst (λ (h : Hearing). Exchanges (told replay) (at_lane lane s) w.asks (Some h) t) given_is
-        (subst (λ (a : Asked). Exchanges (told replay) (at_lane lane s) a (Some turn.makes.given) t) ask_is turn.makes.exchange))
+        (subst (λ (h : Heard). Exchanges (told replay) (at_lane lane s) w.asks (Some h) t) given_is
+        (subst (λ (a : Ask). Exchanges (told replay) (at_lane lane s) a (Some turn.makes.given) t) ask_is turn.makes.exchange))
 
     -- the transaction after it
     abbrev pub then_standing : Standing

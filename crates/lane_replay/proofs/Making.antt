@@ -1,9 +1,9 @@
 -- Turns of a replay, one after another, until it has stopped.
 use Rattle.std.proofs.Common.{◌≡◌, ℕ, zero, suc, ◌+◌, true, false, List, length, refl, sym, ap, subst, ◌∙◌, arith, Option, Some, None}
-use Rattle.ep_base.specs.Configuration.{Settings}
-use Rattle.ep_base.specs.Io.{AppendsPrefix}
-use Rattle.ep_base.specs.ReplayRun.{Mismatch}
-use Rattle.law_turns.specs.Order.{Order, next_turn}
+use Rattle.ep_rules.specs.EntryPoint.Configuration.{Config}
+use Rattle.ep_base.specs.Streams.Io.{AppendsPrefix}
+use Rattle.ep_claim.specs.Lanes.ReplayRun.{Mismatch}
+use Rattle.ep_claim.specs.Lanes.Order.{Order, next_turn}
 use Rattle.ep_lanes.specs.Lanes.{lane_of, is_live, count_of, next_of, lane_in, next_lane}
 use Rattle.ep_lanes.proofs.Ordering.{same_turn}
 use Rattle.lane_report.specs.Works.{work_of}
@@ -11,8 +11,8 @@ use Rattle.lane_report.proofs.Appending.{prefix_front}
 use Rattle.lane_replay.specs.Made.{EndCut, EndShown, TurnsCut, TurnsMade}
 use Rattle.lane_replay.specs.Shows.{ReplayState, Shows}
 use Rattle.lane_replay.specs.Turned.{TurnCut, TurnTaken, lines_left}
-use Rattle.lane_replay.specs.WholeReplay.{HasStopped, LaneReplay, replay_step, turn_unless}
-use Rattle.lane_replay.specs.WholeReplay as replays
+use Rattle.ep_claim.specs.Lanes.WholeReplay.{HasStopped, LaneReplay, replay_step, turn_unless}
+use Rattle.ep_claim.specs.Lanes.WholeReplay as replays
 use Rattle.lane_replay.proofs.Stopping.{stops_in, steps_grow}
 use Rattle.lane_replay.proofs.Turns.{live_shown}
 
@@ -21,7 +21,7 @@ none_next None e = refl
 none_next (Some t) e = let never : Some t.0 ≡ None = e in cc
 
 -- Where it is no lane's turn, the replay that is shown has stopped.
-shown_over : (settings : Settings) (fsdi : ℕ) (start : Option (List ℕ)) (s : ReplayState) (r : LaneReplay) (count : ℕ)
+shown_over : (settings : Config) (fsdi : ℕ) (start : Option (List ℕ)) (s : ReplayState) (r : LaneReplay) (count : ℕ)
     → Shows settings fsdi start s r → count_of s.lanes ≡ count → next_lane s.lanes ≡ None → HasStopped count r
 shown_over settings fsdi start s r count shows size none =
     let same = same_turn (is_live s.lanes) (replays.is_live r)
@@ -32,7 +32,7 @@ shown_over settings fsdi start s r count shows size none =
     ∙ (ap (λ k. next_turn (is_live s.lanes) k r.order) (sym size)
     ∙ (ap (λ (o : Order). next_turn (is_live s.lanes) (count_of s.lanes) o) (sym shows.order) ∙ next)))
 
-module _ (settings : Settings) (fsdi : ℕ) where
+module _ (settings : Config) (fsdi : ℕ) where
   -- nothing more is asked
   pub none_made : (now : ReplayState) → count_of now.lanes ≡ length now.works → next_lane now.lanes ≡ None → TurnsMade settings fsdi now now
   none_made now size none = λ start r shows. record {

@@ -4,31 +4,31 @@ use Rattle.std.specs.Prelude.{◌&&◌, if◌then◌else◌, slice_get}
 use Rattle.std.proofs.lemmas.Bool.Decides.{eqb_tells, leb_tells}
 use Rattle.std.proofs.lemmas.List.{append-nil, drop_all, drop_more, length-map}
 use Rattle.std.proofs.lemmas.Option.{slice_get-get_or, slice_get_past}
-use Rattle.ep_base.specs.Apdu.{same_bytes}
-use Rattle.ep_base.specs.Configuration.{Settings}
-use Rattle.ep_base.specs.Hearing.{Asked, Hearing, same_wave}
-use Rattle.ep_base.specs.Lanes.{times}
-use Rattle.ep_base.specs.ReplayRun.{Mismatch, Replaying, at_lane, compared, ends_unless, failing, finishes, left_over, same_shown, sends_unless, took}
-use Rattle.ep_base.specs.Talk.{Talk}
-use Rattle.ep_base.specs.TraceLine.{Shown, Traced}
-use Rattle.ep_base.specs.WrittenText.{event_lines}
+use Rattle.ep_base.specs.Cards.Apdu.{same_bytes}
+use Rattle.ep_rules.specs.EntryPoint.Configuration.{Config}
+use Rattle.ep_base.specs.Air.Heard.{Ask, Heard, same_wave}
+use Rattle.ep_claim.specs.Lanes.Steps.{times}
+use Rattle.ep_claim.specs.Lanes.ReplayRun.{Mismatch, Replaying, at_lane, compared, ends_unless, failing, finishes, left_over, same_shown, sends_unless, took}
+use Rattle.ep_rules.specs.EntryPoint.Talk.{Talk}
+use Rattle.ep_claim.specs.Text.TraceLine.{Shown, TraceLine}
+use Rattle.ep_claim.specs.Text.WrittenText.{event_lines}
 use Rattle.ep_base.specs.declared.air.Wave.{Wave}
 use Rattle.ep_base.specs.declared.air.Wave.TheVariants.{AShort, ABare, A, B}
-use Rattle.law_lane.specs.Exchanges.{Lane, field_answers, or_silence}
-use Rattle.law_lane.specs.Standing.{Standing, asked_by, events_of, started}
-use Rattle.law_turns.specs.LaneText.{Going, Job, added, heard_lane, traced_as}
-use Rattle.law_turns.specs.LaneText as runs
-use Rattle.law_turns.specs.Order.{Order, next_turn}
-use Rattle.law_turns.specs.WholeRun.{Run, is_live, open_probe, opened_run, run_after, run_step, takes_turn}
-use Rattle.law_turns.specs.WholeRun as whole
+use Rattle.ep_claim.specs.Lanes.Exchanges.{Lane, field_answers, or_silence}
+use Rattle.ep_claim.specs.Lanes.Standing.{Standing, asked_by, events_of, started}
+use Rattle.ep_claim.specs.Lanes.LaneText.{Going, Job, added, heard_lane, traced_as}
+use Rattle.ep_claim.specs.Lanes.LaneText as runs
+use Rattle.ep_claim.specs.Lanes.Order.{Order, next_turn}
+use Rattle.ep_claim.specs.Lanes.WholeRun.{Run, is_live, open_probe, opened_run, run_after, run_step, takes_turn}
+use Rattle.ep_claim.specs.Lanes.WholeRun as whole
 use Rattle.ep_lanes.proofs.Ordering.{same_turn}
 use Rattle.scenario.specs.Scene.{Work}
 use Rattle.lane_report.specs.Works.{all_jobs, job_of, talk_in}
-use Rattle.lane_replay.specs.LaneText.{Piece, Waiting, heard_piece, opens, opens_by, goes_on}
+use Rattle.ep_claim.specs.Lanes.ReplayText.{Piece, Waiting, heard_piece, opens, opens_by, goes_on}
 use Rattle.lane_replay.specs.OwnTrace.{OwnTraceMatches, SameTalks, line_at, line_by, line_in, lines_of, said_after, said_at, said_by, said_first, said_in, said_of, said_on, said_opening, talks_in}
 use Rattle.lane_replay.specs.Shows.{talks_of}
-use Rattle.lane_replay.specs.WholeReplay.{LaneReplay, answered, first_mismatch, hears, opened_replay, opening_lanes, opening_text, replay_after, replay_step, turn_in, turn_unless}
-use Rattle.lane_replay.specs.WholeReplay as replays
+use Rattle.ep_claim.specs.Lanes.WholeReplay.{LaneReplay, answered, first_mismatch, hears, opened_replay, opening_lanes, opening_text, replay_after, replay_step, turn_in, turn_unless}
+use Rattle.ep_claim.specs.Lanes.WholeReplay as replays
 
 -- ---- what is the same
 
@@ -70,18 +70,18 @@ module _ {X : Type 0} (xs : List X) (i : ℕ) where
       (leb_tells (length xs) i)
 
 -- what is asked is what the next line says
-answers : (lane : ℕ) (ask : Asked) (heard : Hearing) (s : Replaying) (more : List Traced) → s.failure ≡ None
+answers : (lane : ℕ) (ask : Ask) (heard : Heard) (s : Replaying) (more : List TraceLine) → s.failure ≡ None
     → drop s.taken s.lines ≡ traced_as lane ask heard ∷ more → answered lane ask s ≡ (Some heard, took (at_lane lane s))
 answers lane ask heard s more well next =
     let got : Shown = record { lane = lane; wave = ask.wave; frame = ask.bytes; wait = ask.wait } in
     let at = at_lane lane s in
     ap (λ (f : Option Mismatch). sends_unless f got at) well
-    ∙ (ap (λ (l : Option Traced). compared got l at) (next_at s.lines s.taken (traced_as lane ask heard) more next).0
+    ∙ (ap (λ (l : Option TraceLine). compared got l at) (next_at s.lines s.taken (traced_as lane ask heard) more next).0
     ∙ ap (λ (b : Bool). if b then (Some heard, took at) else (None, failing (Some got) (Some got) at)) (shown_self got))
 
 -- a trace that didn't fail and of which no line is left ends well
 well_ended : (s : Replaying) → s.failure ≡ None → slice_get s.lines s.taken ≡ None → finishes s ≡ (true, s)
-well_ended s well none = ap (λ (f : Option Mismatch). ends_unless f s) well ∙ ap (λ (l : Option Traced). left_over l s) none
+well_ended s well none = ap (λ (f : Option Mismatch). ends_unless f s) well ∙ ap (λ (l : Option TraceLine). left_over l s) none
 
 -- ---- lanes
 
@@ -89,20 +89,20 @@ abbrev talks : List Job → List Talk
 talks js = map (λ (j : Job). j.talk) js
 
 -- what a lane of the run waits for in the replay
-abbrev waits : Going → Asked → Waiting
+abbrev waits : Going → Ask → Waiting
 waits g ask = record { txn = g.txn; talk = g.talk; standing = g.lane.standing; asks = ask; left = talks g.left }
 
 -- the two lanes are the same
 abbrev Tied : ℕ → Option Going → Option Waiting → Type 0
 Tied fsdi None v = v ≡ None
-Tied fsdi (Some g) v = (ask : Asked) × (asked_by fsdi g.lane.standing.doing ≡ Some ask) × (v ≡ Some (waits g ask))
+Tied fsdi (Some g) v = (ask : Ask) × (asked_by fsdi g.lane.standing.doing ≡ Some ask) × (v ≡ Some (waits g ask))
 
 tied_live : (fsdi : ℕ) (o : Option Going) (v : Option Waiting) → Tied fsdi o v → is_some v ≡ is_some o
 tied_live fsdi None v h = ap is_some h
 tied_live fsdi (Some g) v h = ap is_some h.2
 
 -- the run, and the replay of a trace of which these lines are left, with this text
-record Follows (fsdi : ℕ) (run : Run (Unit {0})) (r : LaneReplay) (left : List Traced) (text : List ℕ) : Type 0 where
+record Follows (fsdi : ℕ) (run : Run (Unit {0})) (r : LaneReplay) (left : List TraceLine) (text : List ℕ) : Type 0 where
   pub each : (n : ℕ) → Tied fsdi (run.lanes n) (r.lanes n)
   pub order : r.order ≡ run.order
   pub well : r.trace.failure ≡ None
@@ -112,7 +112,7 @@ record Follows (fsdi : ℕ) (run : Run (Unit {0})) (r : LaneReplay) (left : List
 module _ (traced : Bool) (fsdi : ℕ) where
   -- ---- lanes that are opened
 
-  tied_by : (lane txn : ℕ) (j : Job) (js : List Job) (rest : runs.Piece) (other : Piece) (a : Option Asked) → asked_by fsdi (started j.talk).doing ≡ a
+  tied_by : (lane txn : ℕ) (j : Job) (js : List Job) (rest : runs.Piece) (other : Piece) (a : Option Ask) → asked_by fsdi (started j.talk).doing ≡ a
       → Tied fsdi rest.going other.waiting → Tied fsdi (runs.opens_by lane txn j js rest a).going (opens_by lane txn j.talk (talks js) other a).waiting
   tied_by lane txn j js rest other (Some ask) e h = (ask, e, refl)
   tied_by lane txn j js rest other None e h = h
@@ -123,7 +123,7 @@ module _ (traced : Bool) (fsdi : ℕ) where
       tied_by lane txn j js (runs.opens fsdi lane (txn + 1) js) (opens fsdi lane (txn + 1) (talks js)) (asked_by fsdi (started j.talk).doing) refl
       (opened_tied js lane (txn + 1))
 
-  said_opened : (lane txn : ℕ) (talk : Talk) (left : List Talk) (other : Piece) (said : List ℕ) (a : Option Asked) → other.text ≡ said
+  said_opened : (lane txn : ℕ) (talk : Talk) (left : List Talk) (other : Piece) (said : List ℕ) (a : Option Ask) → other.text ≡ said
       → (opens_by lane txn talk left other a).text ≡ event_lines lane txn (events_of talk (started talk)) ++ said_after a said
   said_opened lane txn talk left other said (Some ask) e = sym (append-nil (event_lines lane txn (events_of talk (started talk))))
   said_opened lane txn talk left other said None e = ap (λ l. event_lines lane txn (events_of talk (started talk)) ++ l) e
@@ -152,30 +152,30 @@ module _ (traced : Bool) (fsdi : ℕ) where
 
   -- ---- an exchange
 
-  on_tied : (lane : ℕ) (g : Going) (ask : Asked) (l : Lane) (a : Option Asked) → asked_by fsdi l.standing.doing ≡ a
+  on_tied : (lane : ℕ) (g : Going) (ask : Ask) (l : Lane) (a : Option Ask) → asked_by fsdi l.standing.doing ≡ a
       → Tied fsdi (runs.goes_on fsdi lane g l a).going (goes_on fsdi lane (waits g ask) l.standing a).waiting
   on_tied lane g ask l (Some next) e = (next, e, refl)
   on_tied lane g ask l None e = opened_tied g.left lane (g.txn + 1)
 
-  on_said : (lane : ℕ) (g : Going) (ask : Asked) (s : Standing) (a : Option Asked)
+  on_said : (lane : ℕ) (g : Going) (ask : Ask) (s : Standing) (a : Option Ask)
       → (goes_on fsdi lane (waits g ask) s a).text ≡ said_after a (said_opening fsdi lane (g.txn + 1) g.left)
   on_said lane g ask s (Some next) = refl
   on_said lane g ask s None = opened_said g.left lane (g.txn + 1)
 
-  module _ (run : Run (Unit {0})) (r : LaneReplay) (more : List Traced) (text : List ℕ) where
+  module _ (run : Run (Unit {0})) (r : LaneReplay) (more : List TraceLine) (text : List ℕ) where
     -- nothing is exchanged
     nothing : Follows fsdi run r more text → Follows fsdi run r more (text ++ [])
     nothing f = subst (λ t. Follows fsdi run r more t) (sym (append-nil text)) f
 
-    module _ (n : ℕ) (o : Order) (g : Going) (ask : Asked) where
-      abbrev heard : Hearing
+    module _ (n : ℕ) (o : Order) (g : Going) (ask : Ask) where
+      abbrev heard : Heard
       heard = or_silence (field_answers ask g.lane.field).0
 
       -- the lane after the exchange
       abbrev then_lane : Lane
       then_lane = heard_lane fsdi g.talk ask heard (field_answers ask g.lane.field).1 g.lane
 
-      abbrev answer : Option Hearing × Replaying
+      abbrev answer : Option Heard × Replaying
       answer = (Some heard, took (at_lane n r.trace))
 
       exchange : Follows fsdi run r (traced_as n ask heard ∷ more) text
@@ -205,7 +205,7 @@ module _ (traced : Bool) (fsdi : ℕ) where
           subst (λ (v : Option Waiting).
           Follows fsdi (whole.asks traced open_probe fsdi n o g (Some ask) run) (replays.turn_of fsdi n o v r) more (text ++ said_on fsdi n g then_lane))
           (sym is)
-          (subst (λ (a : Option Hearing × Replaying).
+          (subst (λ (a : Option Heard × Replaying).
           Follows fsdi (whole.asks traced open_probe fsdi n o g (Some ask) run) (hears fsdi n o (waits g ask) a r) more (text ++ said_on fsdi n g then_lane))
           (sym (answers n ask heard r.trace more f.well f.rest)) (exchange f))
 
@@ -214,7 +214,7 @@ module _ (traced : Bool) (fsdi : ℕ) where
     by_lane n o None tie f =
         subst (λ (v : Option Waiting). Follows fsdi run (replays.turn_of fsdi n o v r) more (text ++ [])) (sym tie) (nothing f)
     by_lane n o (Some g) tie f =
-        (subst (λ (a : Option Asked). Follows fsdi run r (line_by n g a ++ more) text
+        (subst (λ (a : Option Ask). Follows fsdi run r (line_by n g a ++ more) text
         → Follows fsdi (whole.asks traced open_probe fsdi n o g a run) (replays.turn_of fsdi n o (r.lanes n) r) more (text ++ said_by fsdi n g a))
         (sym tie.1) (λ h. by_answer n o g tie.0 tie.2 h)) f
 
@@ -224,7 +224,7 @@ module _ (traced : Bool) (fsdi : ℕ) where
     by_turn (Some (n, o)) f = by_lane n o (run.lanes n) (f.each n) f
 
   -- the same turn
-  turn_same : (count : ℕ) (run : Run (Unit {0})) (r : LaneReplay) (left : List Traced) (text : List ℕ) → Follows fsdi run r left text
+  turn_same : (count : ℕ) (run : Run (Unit {0})) (r : LaneReplay) (left : List TraceLine) (text : List ℕ) → Follows fsdi run r left text
       → turn_in count r ≡ next_turn (is_live run) count run.order
   turn_same count run r left text f =
       ap (λ (x : Option Mismatch). turn_unless x (next_turn (replays.is_live r) count r.order)) f.well
@@ -232,7 +232,7 @@ module _ (traced : Bool) (fsdi : ℕ) where
       ∙ ap (λ (o : Order). next_turn (is_live run) count o) f.order)
 
   module _ (count : ℕ) where
-    step_follows : (run : Run (Unit {0})) (r : LaneReplay) (more : List Traced) (text : List ℕ)
+    step_follows : (run : Run (Unit {0})) (r : LaneReplay) (more : List TraceLine) (text : List ℕ)
         → Follows fsdi run r (line_at fsdi run (next_turn (is_live run) count run.order) ++ more) text
         → Follows fsdi (run_step traced open_probe fsdi count run) (replay_step fsdi count r) more
         (text ++ said_at fsdi run (next_turn (is_live run) count run.order))
@@ -242,7 +242,7 @@ module _ (traced : Bool) (fsdi : ℕ) where
         (sym (turn_same count run r (line_at fsdi run (next_turn (is_live run) count run.order) ++ more) text f))
         (by_turn run r more text (next_turn (is_live run) count run.order) f)
 
-    steps_follow : (n : ℕ) (run : Run (Unit {0})) (r : LaneReplay) (more : List Traced) (text : List ℕ)
+    steps_follow : (n : ℕ) (run : Run (Unit {0})) (r : LaneReplay) (more : List TraceLine) (text : List ℕ)
         → Follows fsdi run r (lines_of traced fsdi count n run ++ more) text
         → Follows fsdi (times (run_step traced open_probe fsdi count) n run) (times (replay_step fsdi count) n r) more (text ++ said_of traced fsdi count n run)
     steps_follow zero run r more text f = nothing run r more text f
@@ -287,7 +287,7 @@ own_trace_law traced fsdi turns lanes n over =
 
 -- ---- the lanes of a report
 
-talks_same : (settings : Settings) (ws : List Work) → talks (map (job_of settings) ws) ≡ map (talk_in settings) ws
+talks_same : (settings : Config) (ws : List Work) → talks (map (job_of settings) ws) ≡ map (talk_in settings) ws
 talks_same settings [] = refl
 talks_same settings (w ∷ ws) = ap (λ l. talk_in settings w ∷ l) (talks_same settings ws)
 

@@ -4,9 +4,9 @@ use Rattle.std.specs.Prelude.{if◌then◌else◌}
 use Rattle.std.proofs.lemmas.Bool.Decides.{eqb_tells, leb_tells}
 use Rattle.std.proofs.lemmas.List.{length-replicate, get_or-map, drop_more, drop_all, length-map}
 use Rattle.std.proofs.lemmas.List.Elements.{All-get_or}
-use Rattle.ep_base.specs.Configuration.{Settings}
-use Rattle.ep_base.specs.Kernel.{Scripted}
-use Rattle.ep_base.specs.ReplayRun.{Replaying, begun}
+use Rattle.ep_rules.specs.EntryPoint.Configuration.{Config}
+use Rattle.ep_rules.specs.EntryPoint.Kernel.{Scripted}
+use Rattle.ep_claim.specs.Lanes.ReplayRun.{Replaying, begun}
 use Rattle.ep_lanes.specs.Lanes.{LaneHeld, Held, no_lane, new_lane, lane_of, count_of, new_lanes}
 use Rattle.ep_lanes.proofs.Numbering.{past_all}
 use Rattle.law_turns.proofs.Stepping.{choose}
@@ -15,17 +15,17 @@ use Rattle.lane_report.specs.Written.{with_text}
 use Rattle.lane_report.proofs.Numbering.{work_past, item_is, work_here, work_elsewhere}
 use Rattle.lane_report.proofs.Opened.{new_at}
 use Rattle.lane_report.proofs.Places as place
-use Rattle.lane_replay.specs.LaneText.{opens}
+use Rattle.ep_claim.specs.Lanes.ReplayText.{opens}
 use Rattle.lane_replay.specs.Replayed.{IsFirst}
 use Rattle.lane_replay.specs.Shows.{Fits, IsOpened, Shows, ShowsLane, all_talks, talks_of}
-use Rattle.lane_replay.specs.WholeReplay.{opened_replay, opening_lanes, opening_text}
+use Rattle.ep_claim.specs.Lanes.WholeReplay.{opened_replay, opening_lanes, opening_text}
 
 -- a lane shows what these transactions of it come to once they are opened
-abbrev pub ShowsBegun : Settings → (fsdi lane : ℕ) → LaneHeld Scripted → (work todo : LaneWork) → Type 0
+abbrev pub ShowsBegun : Config → (fsdi lane : ℕ) → LaneHeld Scripted → (work todo : LaneWork) → Type 0
 ShowsBegun settings fsdi lane held work todo = ShowsLane settings fsdi held work (opens fsdi lane 1 (talks_of settings todo)).waiting
 
 -- so many lanes were opened, and the others are as they were
-pub record Opening (settings : Settings) (fsdi i : ℕ) (before : Held Scripted) (todo : List LaneWork) (now : Held Scripted) (works : List LaneWork) : Type 0 where
+pub record Opening (settings : Config) (fsdi i : ℕ) (before : Held Scripted) (todo : List LaneWork) (now : Held Scripted) (works : List LaneWork) : Type 0 where
   pub count : count_of now ≡ length todo
   pub size : length works ≡ length todo
   pub order : now.order ≡ before.order
@@ -34,7 +34,7 @@ pub record Opening (settings : Settings) (fsdi i : ℕ) (before : Held Scripted)
   pub waits : (n : ℕ) → i < n → (lane_of now n ≡ lane_of before n) × (work_of works n ≡ work_of todo n)
 
 -- The text of the lanes that are left begins with that of the next one.
-text_next : (settings : Settings) (fsdi lane i : ℕ) (todo : List LaneWork) (w : LaneWork) → i < length todo → w ≡ work_of todo lane → lane ≡ i + 1
+text_next : (settings : Config) (fsdi lane i : ℕ) (todo : List LaneWork) (w : LaneWork) → i < length todo → w ≡ work_of todo lane → lane ≡ i + 1
     → w.txn ≡ 0
     → opening_text fsdi lane (drop i (all_talks settings todo))
     ≡ (opens fsdi lane (w.txn + 1) (talks_of settings w)).text ++ opening_text fsdi (lane + 1) (drop (i + 1) (all_talks settings todo))
@@ -51,13 +51,13 @@ text_next settings fsdi lane i todo w less is number first =
     ∙ (ap (λ ts. (opens fsdi lane 1 ts).text ++ rest) head ∙ ap (λ k. (opens fsdi lane k (talks_of settings w)).text ++ rest) one)
 
 -- nothing is left behind the last one
-pub text_none : (settings : Settings) (fsdi lane i : ℕ) (todo : List LaneWork) → length todo ≤ i → opening_text fsdi lane (drop i (all_talks settings todo)) ≡ []
+pub text_none : (settings : Config) (fsdi lane i : ℕ) (todo : List LaneWork) → length todo ≤ i → opening_text fsdi lane (drop i (all_talks settings todo)) ≡ []
 text_none settings fsdi lane i todo over =
     let size = length-map todo (talks_of settings) in
     ap (opening_text fsdi lane) (drop_all i (all_talks settings todo) (omega (arith, over, size)))
 
 -- The lanes of a replay that was just opened, by their numbers.
-module _ (settings : Settings) (fsdi : ℕ) where
+module _ (settings : Config) (fsdi : ℕ) where
   low : (works : List LaneWork) (first n : ℕ) → n < first → opening_lanes fsdi first (all_talks settings works) n ≡ None
   low [] first n less = refl
   low (w ∷ ws) first n less =
@@ -90,7 +90,7 @@ module _ (settings : Settings) (fsdi : ℕ) where
       ∙ ap (λ (w : LaneWork). (opens fsdi n 1 (talks_of settings w)).waiting) (sym (place.placed works n least)))
       (eqb_tells n 0)
 
-module _ (settings : Settings) (fsdi : ℕ) (before : Held Scripted) (todo : List LaneWork) where
+module _ (settings : Config) (fsdi : ℕ) (before : Held Scripted) (todo : List LaneWork) where
   no_one : IsOpened no_lane
   no_one = refl
 

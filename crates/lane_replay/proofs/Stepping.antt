@@ -1,12 +1,12 @@
 -- What a replay's next exchange comes to.
 use Rattle.std.proofs.Common.{◌≡◌, ℕ, zero, suc, true, false, refl, sym, ap, subst, ◌∙◌, Option, Some, None, is_some}
-use Rattle.ep_base.specs.Hearing.{Hearing}
-use Rattle.ep_base.specs.Lanes.{times}
-use Rattle.ep_base.specs.ReplayRun.{Mismatch, Replaying}
-use Rattle.law_turns.specs.Order.{Order, next_turn}
+use Rattle.ep_base.specs.Air.Heard.{Heard}
+use Rattle.ep_claim.specs.Lanes.Steps.{times}
+use Rattle.ep_claim.specs.Lanes.ReplayRun.{Mismatch, Replaying}
+use Rattle.ep_claim.specs.Lanes.Order.{Order, next_turn}
 use Rattle.law_turns.proofs.Ordering.{Anyhow, anyhow}
-use Rattle.lane_replay.specs.LaneText.{Waiting}
-use Rattle.lane_replay.specs.WholeReplay.{LaneReplay, HasStopped, answered, hears, is_live, replay_step, takes_turn, turn_in, turn_of, turn_unless}
+use Rattle.ep_claim.specs.Lanes.ReplayText.{Waiting}
+use Rattle.ep_claim.specs.Lanes.WholeReplay.{LaneReplay, HasStopped, answered, hears, is_live, replay_step, takes_turn, turn_in, turn_of, turn_unless}
 
 nobody : (t : ℕ × Order) (A : Type 0) → None ≡ Some t → A
 nobody t A e = absurd (let clash : ⊥ = cc in clash)
@@ -33,10 +33,10 @@ module _ (fsdi count : ℕ) (r : LaneReplay) (C : Option (ℕ × Order) → Lane
       → C (Some (n, o)) (hears fsdi n o w (None, t) r)
 
   abbrev pub Hears : Type 0
-  Hears = (n : ℕ) (o : Order) (w : Waiting) (h : Hearing) (t : Replaying) → turn_now ≡ Some (n, o) → r.lanes n ≡ Some w
+  Hears = (n : ℕ) (o : Order) (w : Waiting) (h : Heard) (t : Replaying) → turn_now ≡ Some (n, o) → r.lanes n ≡ Some w
       → answered n w.asks r.trace ≡ (Some h, t) → C (Some (n, o)) (hears fsdi n o w (Some h, t) r)
 
-  by_answer : (n : ℕ) (o : Order) (w : Waiting) → turn_now ≡ Some (n, o) → r.lanes n ≡ Some w → Differs → Hears → (a : Option Hearing × Replaying)
+  by_answer : (n : ℕ) (o : Order) (w : Waiting) → turn_now ≡ Some (n, o) → r.lanes n ≡ Some w → Differs → Hears → (a : Option Heard × Replaying)
       → answered n w.asks r.trace ≡ a → C (Some (n, o)) (hears fsdi n o w a r)
   by_answer n o w e d differs hear (None, t) x = differs n o w t e d x
   by_answer n o w e d differs hear (Some h, t) x = hear n o w h t e d x

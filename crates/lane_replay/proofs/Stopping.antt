@@ -2,14 +2,14 @@
 use Rattle.std.proofs.Common.{◌≡◌, ⊎_elim, ℕ, zero, suc, ◌+◌, ◌-◌, ◌<◌, List, [], ◌++◌, length, refl, sym, ap, subst, ◌∙◌, append_assoc, arith, Some, None}
 use Rattle.std.proofs.lemmas.Bool.Decides.{leb_tells}
 use Rattle.std.proofs.lemmas.List.{append-nil}
-use Rattle.ep_base.specs.Lanes.{times}
-use Rattle.ep_base.specs.Talk.{Talk}
-use Rattle.ep_base.specs.TraceLine.{Traced}
+use Rattle.ep_claim.specs.Lanes.Steps.{times}
+use Rattle.ep_rules.specs.EntryPoint.Talk.{Talk}
+use Rattle.ep_claim.specs.Text.TraceLine.{TraceLine}
 use Rattle.law_lane.proofs.Moving.{times_more}
-use Rattle.lane_replay.specs.LaneText.{heard_piece}
+use Rattle.ep_claim.specs.Lanes.ReplayText.{heard_piece}
 use Rattle.lane_replay.specs.Stopping.{OneEnd, ReplaysStay, ReplaysStop, TextsGrow}
 use Rattle.lane_replay.specs.Turned.{lines_left}
-use Rattle.lane_replay.specs.WholeReplay.{HasStopped, LaneReplay, first_mismatch, hears, opened_replay, replay_after, replay_step}
+use Rattle.ep_claim.specs.Lanes.WholeReplay.{HasStopped, LaneReplay, first_mismatch, hears, opened_replay, replay_after, replay_step}
 use Rattle.lane_replay.proofs.Answering.{answer_of}
 use Rattle.lane_replay.proofs.Stepping.{by_step, failed_stopped, stopped_same}
 
@@ -56,7 +56,7 @@ replays_stay_law fsdi turns lines lanes m n le stopped =
     ap (λ k. times step k begun) more ∙ times_more step m (n - m) begun
     ∙ stopped_same fsdi (length lanes) (n - m) (replay_after fsdi turns lines lanes m) stopped
 
-same_end : (fsdi : ℕ) (turns : List ℕ) (lines : List Traced) (lanes : List (List Talk)) (m n : ℕ)
+same_end : (fsdi : ℕ) (turns : List ℕ) (lines : List TraceLine) (lanes : List (List Talk)) (m n : ℕ)
     → HasStopped (length lanes) (replay_after fsdi turns lines lanes m) → HasStopped (length lanes) (replay_after fsdi turns lines lanes n)
     → replay_after fsdi turns lines lanes m ≡ replay_after fsdi turns lines lanes n
 same_end fsdi turns lines lanes m n x y =

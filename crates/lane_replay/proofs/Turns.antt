@@ -2,23 +2,23 @@
 use Rattle.std.proofs.Common.{◌≡◌, ◌≢◌, ⊎_elim, ℕ, ◌==◌, ◌≤◌, Bool, true, false, List, length, refl, sym, ap, subst, ◌∙◌}
 use Rattle.std.specs.Prelude.{Option, Some, None, is_some, if◌then◌else◌}
 use Rattle.std.proofs.lemmas.Bool.Decides.{eqb_tells}
-use Rattle.ep_base.specs.Configuration.{Settings}
-use Rattle.ep_base.specs.Hearing.{Hearing}
-use Rattle.ep_base.specs.Io.{AppendsPrefix}
-use Rattle.ep_base.specs.Kernel.{Scripted}
-use Rattle.ep_base.specs.ReplayRun.{Mismatch, Replaying}
-use Rattle.law_turns.specs.Order.{Order, next_turn}
+use Rattle.ep_rules.specs.EntryPoint.Configuration.{Config}
+use Rattle.ep_base.specs.Air.Heard.{Heard}
+use Rattle.ep_base.specs.Streams.Io.{AppendsPrefix}
+use Rattle.ep_rules.specs.EntryPoint.Kernel.{Scripted}
+use Rattle.ep_claim.specs.Lanes.ReplayRun.{Mismatch, Replaying}
+use Rattle.ep_claim.specs.Lanes.Order.{Order, next_turn}
 use Rattle.ep_lanes.specs.Lanes.{Held, LaneHeld, count_of, is_live, lane_of, next_lane, next_of}
 use Rattle.ep_lanes.proofs.Numbering.{live_there}
 use Rattle.ep_lanes.proofs.Ordering.{same_turn}
 use Rattle.lane_report.specs.Works.{LaneWork, work_of}
 use Rattle.lane_report.proofs.Appending.{with_more, wrote_since, prefix_more}
 use Rattle.lane_report.proofs.Steps.{next_live}
-use Rattle.lane_replay.specs.LaneText.{Piece, Waiting, heard_piece}
+use Rattle.ep_claim.specs.Lanes.ReplayText.{Piece, Waiting, heard_piece}
 use Rattle.lane_replay.specs.Shows.{Fits, IsOpened, ReplayState, Shows, ShowsEnd, ShowsLane, ShowsWaiting}
 use Rattle.lane_replay.specs.Turned.{HeardPart, LaneCame, LaneCut, LaneDiffers, LaneHeard, LaneState, LaneTurned, Stepped, TurnCut, TurnTaken}
-use Rattle.lane_replay.specs.WholeReplay.{HasStopped, LaneReplay, answered, hears, replay_step, takes_turn, turn_in, turn_of, turn_unless}
-use Rattle.lane_replay.specs.WholeReplay as replays
+use Rattle.ep_claim.specs.Lanes.WholeReplay.{HasStopped, LaneReplay, answered, hears, replay_step, takes_turn, turn_in, turn_of, turn_unless}
+use Rattle.ep_claim.specs.Lanes.WholeReplay as replays
 use Rattle.lane_replay.proofs.Answering.{answer_of}
 use Rattle.lane_replay.proofs.Stepping.{failed_stopped}
 
@@ -27,7 +27,7 @@ pub next_there : (h : Held Scripted) (works : List LaneWork) (lane : ℕ) → Fi
 next_there h works lane fits e = subst (λ n. (1 ≤ lane) × (lane ≤ n)) fits.count (live_there h.lanes lane (next_live h lane e))
 
 -- A lane is live exactly where the replay's waits for an exchange.
-pub live_shown : (settings : Settings) (fsdi : ℕ) (held : LaneHeld Scripted) (work : LaneWork) (o : Option Waiting) → ShowsLane settings fsdi held work o
+pub live_shown : (settings : Config) (fsdi : ℕ) (held : LaneHeld Scripted) (work : LaneWork) (o : Option Waiting) → ShowsLane settings fsdi held work o
     → held.live ≡ is_some o
 live_shown settings fsdi held work None h = ap (λ (l : LaneHeld Scripted). l.live) h
 live_shown settings fsdi held work (Some w) h = h.live
@@ -36,7 +36,7 @@ live_shown settings fsdi held work (Some w) h = h.live
 abbrev pub lane_state : ReplayState → ℕ → LaneWork → LaneState
 lane_state s lane work = record { held = lane_of s.lanes lane; work = work; trace = s.trace; written = s.written }
 
-module _ (settings : Settings) (fsdi lane : ℕ) (before : ReplayState) (order : Order) (turn : next_of before.lanes ≡ Some (lane, order))
+module _ (settings : Config) (fsdi lane : ℕ) (before : ReplayState) (order : Order) (turn : next_of before.lanes ≡ Some (lane, order))
     (count : count_of before.lanes ≡ length before.works) (live : is_live before.lanes lane ≡ true) (start : Option (List ℕ)) (r : LaneReplay)
     (shows : Shows settings fsdi start before r) where
   same_live : (n : ℕ) → is_live before.lanes n ≡ replays.is_live r n
@@ -63,7 +63,7 @@ module _ (settings : Settings) (fsdi lane : ℕ) (before : ReplayState) (order :
     of_turn = subst (λ t. Q (takes_turn fsdi t r)) (sym replay_turn) (by_waiting (r.lanes lane) refl)
 
   -- the answer is the replay's
-  by_trace : (w : Waiting) (a : Option Hearing × Replaying) → answered lane w.asks before.trace ≡ a → answered lane w.asks r.trace ≡ a
+  by_trace : (w : Waiting) (a : Option Heard × Replaying) → answered lane w.asks before.trace ≡ a → answered lane w.asks r.trace ≡ a
   by_trace w a line = subst (λ (s : Replaying). answered lane w.asks s ≡ a) shows.trace line
 
   -- the lanes after it
@@ -97,7 +97,7 @@ module _ (settings : Settings) (fsdi lane : ℕ) (before : ReplayState) (order :
 
       pub heard_after : Shows settings fsdi start after (hears fsdi lane order w (answered lane w.asks r.trace) r)
       heard_after =
-          subst (λ (a : Option Hearing × Replaying). Shows settings fsdi start after (hears fsdi lane order w a r))
+          subst (λ (a : Option Heard × Replaying). Shows settings fsdi start after (hears fsdi lane order w a r))
           (sym (by_trace w (Some heard.heard, after.trace) heard.line)) shown_after
 
     module _ (differs : LaneDiffers lane (lane_state before lane (work_of before.works lane)) (lane_state after lane (work_of after.works lane)) w) where
@@ -113,7 +113,7 @@ module _ (settings : Settings) (fsdi lane : ℕ) (before : ReplayState) (order :
       pub differs_after : HasStopped (length before.works) (hears fsdi lane order w (answered lane w.asks r.trace) r)
           × ShowsEnd start after (hears fsdi lane order w (answered lane w.asks r.trace) r)
       differs_after =
-          subst (λ (a : Option Hearing × Replaying). HasStopped (length before.works) (hears fsdi lane order w a r) × ShowsEnd start after (hears fsdi lane order w a r))
+          subst (λ (a : Option Heard × Replaying). HasStopped (length before.works) (hears fsdi lane order w a r) × ShowsEnd start after (hears fsdi lane order w a r))
           (sym (by_trace w (None, after.trace) differs.line)) end_after
 
     pub came_after : (same : Bool)
@@ -126,11 +126,11 @@ module _ (settings : Settings) (fsdi lane : ℕ) (before : ReplayState) (order :
   pub part_after : (w : Waiting) (t : Replaying) (written : Option (List ℕ)) → HeardPart fsdi lane before.trace t before.written written w
       → AppendsPrefix start written (hears fsdi lane order w (answered lane w.asks r.trace) r).text
   part_after w t written h =
-      subst (λ (a : Option Hearing × Replaying). AppendsPrefix start written (hears fsdi lane order w a r).text)
+      subst (λ (a : Option Heard × Replaying). AppendsPrefix start written (hears fsdi lane order w a r).text)
       (sym (by_trace w (Some h.heard, t) h.line))
       (prefix_more start before.written written r.text _ (wrote_since start before.written r.text shows.text) h.part)
 
-module _ (settings : Settings) (fsdi lane : ℕ) (before : ReplayState) (order : Order) (turn : next_of before.lanes ≡ Some (lane, order))
+module _ (settings : Config) (fsdi lane : ℕ) (before : ReplayState) (order : Order) (turn : next_of before.lanes ≡ Some (lane, order))
     (next : next_lane before.lanes ≡ Some lane) (fits : Fits before.lanes before.works) (work : LaneWork) (work_is : work ≡ work_of before.works lane) where
   by_number : (w : Waiting) → ShowsWaiting settings fsdi (lane_of before.lanes lane) (work_of before.works lane) w
       → ShowsWaiting settings fsdi (lane_of before.lanes lane) work w

@@ -1,43 +1,43 @@
 -- The trace of a run, and what the run says beside it: a replay of the one is matched and writes the other (this project's own).
 use Rattle.std.specs.Prelude.{◌≡◌, ℕ, zero, suc, ◌+◌, Bool, List, [], ◌∷◌, ◌++◌, length, map, Option, Some, None}
-use Rattle.ep_base.specs.Configuration.{Settings}
-use Rattle.ep_base.specs.Hearing.{Asked}
-use Rattle.ep_base.specs.Talk.{Talk}
-use Rattle.ep_base.specs.TraceLine.{Traced}
-use Rattle.ep_base.specs.WrittenText.{event_lines}
-use Rattle.law_lane.specs.Exchanges.{Lane, field_answers, or_silence}
-use Rattle.law_lane.specs.Standing.{asked_by, events_of, started}
-use Rattle.law_turns.specs.Ending.{HasEnded}
-use Rattle.law_turns.specs.LaneText.{Going, Job, added, heard_lane, traced_as}
-use Rattle.law_turns.specs.Order.{Order, next_turn}
-use Rattle.law_turns.specs.WholeRun.{Run, is_live, open_probe, opened_run, run_after, run_step}
+use Rattle.ep_rules.specs.EntryPoint.Configuration.{Config}
+use Rattle.ep_base.specs.Air.Heard.{Ask}
+use Rattle.ep_rules.specs.EntryPoint.Talk.{Talk}
+use Rattle.ep_claim.specs.Text.TraceLine.{TraceLine}
+use Rattle.ep_claim.specs.Text.WrittenText.{event_lines}
+use Rattle.ep_claim.specs.Lanes.Exchanges.{Lane, field_answers, or_silence}
+use Rattle.ep_claim.specs.Lanes.Standing.{asked_by, events_of, started}
+use Rattle.ep_claim.specs.Lanes.Ending.{HasEnded}
+use Rattle.ep_claim.specs.Lanes.LaneText.{Going, Job, added, heard_lane, traced_as}
+use Rattle.ep_claim.specs.Lanes.Order.{Order, next_turn}
+use Rattle.ep_claim.specs.Lanes.WholeRun.{Run, is_live, open_probe, opened_run, run_after, run_step}
 use Rattle.lane_report.specs.Works.{LaneWork, all_jobs}
 use Rattle.lane_replay.specs.Shows.{all_talks}
-use Rattle.lane_replay.specs.WholeReplay.{ReplayEnds}
+use Rattle.ep_claim.specs.Lanes.WholeReplay.{ReplayEnds}
 
 -- The exchange of a run's lane as a trace line says it, by what is asked next, if anything is (this project's own).
-abbrev pub line_by : (lane : ℕ) → Going → Option Asked → List Traced
+abbrev pub line_by : (lane : ℕ) → Going → Option Ask → List TraceLine
 line_by lane g None = []
 line_by lane g (Some ask) = traced_as lane ask (or_silence (field_answers ask g.lane.field).0) ∷ []
 
 -- By the lane, where it has an exchange left (this project's own).
-abbrev pub line_in : (fsdi lane : ℕ) → Option Going → List Traced
+abbrev pub line_in : (fsdi lane : ℕ) → Option Going → List TraceLine
 line_in fsdi lane None = []
 line_in fsdi lane (Some g) = line_by lane g (asked_by fsdi g.lane.standing.doing)
 
 -- By whose turn it is, if it is anyone's (this project's own).
-abbrev pub line_at : ℕ → Run (Unit {0}) → Option (ℕ × Order) → List Traced
+abbrev pub line_at : ℕ → Run (Unit {0}) → Option (ℕ × Order) → List TraceLine
 line_at fsdi run None = []
 line_at fsdi run (Some (lane, order)) = line_in fsdi lane (run.lanes lane)
 
 -- The trace lines of a run's next exchanges, so many, if it has as many (this project's own).
-abbrev pub lines_of : Bool → (fsdi count n : ℕ) → Run (Unit {0}) → List Traced
+abbrev pub lines_of : Bool → (fsdi count n : ℕ) → Run (Unit {0}) → List TraceLine
 lines_of traced fsdi count zero run = []
 lines_of traced fsdi count (suc n) run =
     line_at fsdi run (next_turn (is_live run) count run.order) ++ lines_of traced fsdi count n (run_step traced open_probe fsdi count run)
 
 -- What follows the events of a transaction that was opened: nothing, where it asks a frame (this project's own).
-abbrev pub said_after : Option Asked → List ℕ → List ℕ
+abbrev pub said_after : Option Ask → List ℕ → List ℕ
 said_after (Some ask) rest = []
 said_after None rest = rest
 
@@ -54,7 +54,7 @@ said_on fsdi lane g l =
     ++ said_after (asked_by fsdi l.standing.doing) (said_opening fsdi lane (g.txn + 1) g.left)
 
 -- By what is asked next, if anything is (this project's own).
-abbrev pub said_by : (fsdi lane : ℕ) → Going → Option Asked → List ℕ
+abbrev pub said_by : (fsdi lane : ℕ) → Going → Option Ask → List ℕ
 said_by fsdi lane g None = []
 said_by fsdi lane g (Some ask) =
     said_on fsdi lane g (heard_lane fsdi g.talk ask (or_silence (field_answers ask g.lane.field).0) (field_answers ask g.lane.field).1 g.lane)
@@ -94,4 +94,4 @@ OwnTraceMatches =
 
 -- The lanes of a report and those of a replay say and ask the same (this project's own).
 abbrev pub SameTalks : Type 0
-SameTalks = (settings : Settings) (works : List LaneWork) → talks_in (all_jobs settings works) ≡ all_talks settings works
+SameTalks = (settings : Config) (works : List LaneWork) → talks_in (all_jobs settings works) ≡ all_talks settings works

@@ -1,28 +1,28 @@
 -- When lanes and what they have to do show a replay (this project's own).
 use Rattle.std.specs.Prelude.{◌≡◌, ℕ, true, List, length, map, Option, Some, None, is_some}
-use Rattle.ep_base.specs.Configuration.{Settings}
-use Rattle.ep_base.specs.Kernel.{Scripted, scripted}
-use Rattle.ep_base.specs.ReplayRun.{Replaying}
-use Rattle.ep_base.specs.Talk.{Talk}
+use Rattle.ep_rules.specs.EntryPoint.Configuration.{Config}
+use Rattle.ep_rules.specs.EntryPoint.Kernel.{Scripted, scripted}
+use Rattle.ep_claim.specs.Lanes.ReplayRun.{Replaying}
+use Rattle.ep_rules.specs.EntryPoint.Talk.{Talk}
 use Rattle.ep_lanes.specs.Lanes.{LaneHeld, Held, no_lane, lane_of, count_of}
 use Rattle.ep_lanes.specs.Turns.{Stands}
-use Rattle.law_lane.specs.Standing.{asked_by}
+use Rattle.ep_claim.specs.Lanes.Standing.{asked_by}
 use Rattle.lane_report.specs.Works.{LaneWork, talk_in, work_of}
 use Rattle.lane_report.specs.Written.{with_text}
-use Rattle.lane_replay.specs.LaneText.{Waiting}
-use Rattle.lane_replay.specs.WholeReplay.{LaneReplay}
+use Rattle.ep_claim.specs.Lanes.ReplayText.{Waiting}
+use Rattle.ep_claim.specs.Lanes.WholeReplay.{LaneReplay}
 
 -- What a lane's transactions to come say and ask (EMV Book B).
-abbrev pub talks_of : Settings → LaneWork → List Talk
+abbrev pub talks_of : Config → LaneWork → List Talk
 talks_of settings work = map (talk_in settings) work.left
 
 -- The same of all lanes (EMV Book B).
-abbrev pub all_talks : Settings → List LaneWork → List (List Talk)
+abbrev pub all_talks : Config → List LaneWork → List (List Talk)
 all_talks settings works = map (talks_of settings) works
 
 -- A lane shows one that waits for an exchange: its open transaction stands where that one stands and asks the same, and its number and what the
 -- transactions after it say are the same (this project's own).
-pub record ShowsWaiting (settings : Settings) (fsdi : ℕ) (held : LaneHeld Scripted) (work : LaneWork) (w : Waiting) : Type 0 where
+pub record ShowsWaiting (settings : Config) (fsdi : ℕ) (held : LaneHeld Scripted) (work : LaneWork) (w : Waiting) : Type 0 where
   pub live : held.live ≡ true
   pub opened : is_some held.transaction ≡ true
   pub stands : Stands scripted held w.talk fsdi w.standing
@@ -31,7 +31,7 @@ pub record ShowsWaiting (settings : Settings) (fsdi : ℕ) (held : LaneHeld Scri
   pub left : talks_of settings work ≡ w.left
 
 -- A lane shows one of a replay; one that waits for no exchange has ended (this project's own).
-abbrev pub ShowsLane : Settings → ℕ → LaneHeld Scripted → LaneWork → Option Waiting → Type 0
+abbrev pub ShowsLane : Config → ℕ → LaneHeld Scripted → LaneWork → Option Waiting → Type 0
 ShowsLane settings fsdi held work None = held ≡ no_lane
 ShowsLane settings fsdi held work (Some w) = ShowsWaiting settings fsdi held work w
 
@@ -53,7 +53,7 @@ pub record ReplayState : Type 0 where
 
 -- They show a replay that hasn't failed and whose text was written since this start: each lane shows the replay's lane with its number, and all else
 -- is the replay's (this project's own).
-pub record Shows (settings : Settings) (fsdi : ℕ) (start : Option (List ℕ)) (s : ReplayState) (r : LaneReplay) : Type 0 where
+pub record Shows (settings : Config) (fsdi : ℕ) (start : Option (List ℕ)) (s : ReplayState) (r : LaneReplay) : Type 0 where
   pub each : (lane : ℕ) → ShowsLane settings fsdi (lane_of s.lanes lane) (work_of s.works lane) (r.lanes lane)
   pub order : s.lanes.order ≡ r.order
   pub trace : s.trace ≡ r.trace

@@ -1,15 +1,15 @@
 -- What a turn of a lane comes to in a replay (this project's own).
 use Rattle.std.specs.Prelude.{◌≡◌, ℕ, ◌-◌, Bool, true, false, List, length, Option, Some, None, is_some}
 use Rattle.std.specs.Io.KnownBytes.{Appends}
-use Rattle.ep_base.specs.Configuration.{Settings}
-use Rattle.ep_base.specs.Hearing.{Hearing}
-use Rattle.ep_base.specs.Io.{AppendsPrefix}
-use Rattle.ep_base.specs.Kernel.{Scripted, scripted}
-use Rattle.ep_base.specs.Medium as media
-use Rattle.ep_base.specs.ReplayRun.{Replaying, at_lane, replay}
-use Rattle.ep_base.specs.Said.{Said}
-use Rattle.law_lane.specs.Standing.{Standing, asked_by, started}
-use Rattle.law_turns.specs.WholeRun.{open_probe}
+use Rattle.ep_rules.specs.EntryPoint.Configuration.{Config}
+use Rattle.ep_base.specs.Air.Heard.{Heard}
+use Rattle.ep_base.specs.Streams.Io.{AppendsPrefix}
+use Rattle.ep_rules.specs.EntryPoint.Kernel.{Scripted, scripted}
+use Rattle.ep_base.specs.Air.Medium as media
+use Rattle.ep_claim.specs.Lanes.ReplayRun.{Replaying, at_lane, replay}
+use Rattle.ep_rules.specs.EntryPoint.Event.{Said}
+use Rattle.ep_claim.specs.Lanes.Standing.{Standing, asked_by, started}
+use Rattle.ep_claim.specs.Lanes.WholeRun.{open_probe}
 use Rattle.ep_lanes.specs.Lanes.{Held, LaneHeld}
 use Rattle.ep_lanes.specs.Probing as probes
 use Rattle.ep_lanes.specs.Turns as turns
@@ -17,13 +17,13 @@ use Rattle.ep_lanes.specs.Turns.{Stands, Tells}
 use Rattle.ep_lanes.specs.declared.exchange.Turned.{Turned}
 use Rattle.scenario.specs.Scene.{Work}
 use Rattle.lane_report.specs.Works.{LaneWork, talk_in}
-use Rattle.lane_replay.specs.LaneText.{Piece, Waiting, goes_on, heard_piece}
+use Rattle.ep_claim.specs.Lanes.ReplayText.{Piece, Waiting, goes_on, heard_piece}
 use Rattle.lane_replay.specs.Shows.{ReplayState, Shows, ShowsEnd, ShowsLane, ShowsWaiting, talks_of}
-use Rattle.lane_replay.specs.WholeReplay.{HasStopped, LaneReplay, answered, replay_step}
+use Rattle.ep_claim.specs.Lanes.WholeReplay.{HasStopped, LaneReplay, answered, replay_step}
 
 -- A transaction of a lane was begun: where something is asked the lane holds it open, and else the lane is without a transaction again (this
 -- project's own).
-pub record BegunLane (settings : Settings) (fsdi : ℕ) (w : Work) (held : LaneHeld Scripted) (asks : Bool) : Type 0 where
+pub record BegunLane (settings : Config) (fsdi : ℕ) (w : Work) (held : LaneHeld Scripted) (asks : Bool) : Type 0 where
   pub asked : asks ≡ is_some (asked_by fsdi (started (talk_in settings w)).doing)
   pub opened : is_some held.transaction ≡ asks
   pub stands : Stands scripted held (talk_in settings w) fsdi (started (talk_in settings w))
@@ -42,26 +42,26 @@ abbrev pub OtherLine : (lane : ℕ) → (before : LaneHeld Scripted) (s : Replay
 OtherLine lane before s after t = turns.Fails (media.told replay) before (at_lane lane s) after t
 
 -- A lane after an exchange of the transaction that waited so: it stands where the transaction stands then, and says what follows (this project's own).
-pub record IsAfter (settings : Settings) (fsdi : ℕ) (held : LaneHeld Scripted) (work : LaneWork) (turned : Turned) (w : Waiting) (s : Standing) : Type 0 where
+pub record IsAfter (settings : Config) (fsdi : ℕ) (held : LaneHeld Scripted) (work : LaneWork) (turned : Turned) (w : Waiting) (s : Standing) : Type 0 where
   pub stands : Stands scripted held w.talk fsdi s
   pub tells : Tells turned fsdi w.talk s
   pub number : work.txn ≡ w.txn
   pub left : talks_of settings work ≡ w.left
 
 -- A lane wrote a piece, and shows the lane after it (this project's own).
-pub record Wrote (settings : Settings) (fsdi : ℕ) (held : LaneHeld Scripted) (work : LaneWork) (before after : Option (List ℕ)) (piece : Piece) : Type 0 where
+pub record Wrote (settings : Config) (fsdi : ℕ) (held : LaneHeld Scripted) (work : LaneWork) (before after : Option (List ℕ)) (piece : Piece) : Type 0 where
   pub text : Appends before after piece.text
   pub shows : ShowsLane settings fsdi held work piece.waiting
 
 -- After an exchange of a transaction, what follows was written (this project's own).
-abbrev pub GoesOn : Settings → (fsdi lane : ℕ) → (held : LaneHeld Scripted) (work : LaneWork) → Turned → (held_then : LaneHeld Scripted) (work_then : LaneWork)
+abbrev pub GoesOn : Config → (fsdi lane : ℕ) → (held : LaneHeld Scripted) (work : LaneWork) → Turned → (held_then : LaneHeld Scripted) (work_then : LaneWork)
     → (before after : Option (List ℕ)) → Type 0
 GoesOn settings fsdi lane held work turned held_then work_then before after =
     (w : Waiting) (s : Standing) → IsAfter settings fsdi held work turned w s →
     Wrote settings fsdi held_then work_then before after (goes_on fsdi lane w s (asked_by fsdi s.doing))
 
 -- A first part of it was written (this project's own).
-abbrev pub GoesOnPart : Settings → (fsdi lane : ℕ) → (held : LaneHeld Scripted) (work : LaneWork) → Turned → (before after : Option (List ℕ)) → Type 0
+abbrev pub GoesOnPart : Config → (fsdi lane : ℕ) → (held : LaneHeld Scripted) (work : LaneWork) → Turned → (before after : Option (List ℕ)) → Type 0
 GoesOnPart settings fsdi lane held work turned before after =
     (w : Waiting) (s : Standing) → IsAfter settings fsdi held work turned w s →
     AppendsPrefix before after (goes_on fsdi lane w s (asked_by fsdi s.doing)).text
@@ -74,8 +74,8 @@ pub record LaneState : Type 0 where
   pub written : Option (List ℕ)
 
 -- A lane asked what the trace's next line says, and wrote the piece of what that line heard (this project's own).
-pub record LaneHeard (settings : Settings) (fsdi lane : ℕ) (before after : LaneState) (w : Waiting) : Type 0 where
-  pub heard : Hearing
+pub record LaneHeard (settings : Config) (fsdi lane : ℕ) (before after : LaneState) (w : Waiting) : Type 0 where
+  pub heard : Heard
   pub line : answered lane w.asks before.trace ≡ (Some heard, after.trace)
   pub wrote : Wrote settings fsdi after.held after.work before.written after.written (heard_piece fsdi lane w heard)
 
@@ -85,39 +85,39 @@ pub record LaneDiffers (lane : ℕ) (before after : LaneState) (w : Waiting) : T
   pub wrote : after.written ≡ before.written
 
 -- The one or the other, by whether it asked what the line says (this project's own).
-abbrev pub LaneCame : Settings → (fsdi lane : ℕ) → (before after : LaneState) → Waiting → Bool → Type 0
+abbrev pub LaneCame : Config → (fsdi lane : ℕ) → (before after : LaneState) → Waiting → Bool → Type 0
 LaneCame settings fsdi lane before after w true = LaneHeard settings fsdi lane before after w
 LaneCame settings fsdi lane before after w false = LaneDiffers lane before after w
 
 -- So it is for whatever the lane showed (this project's own).
-abbrev pub LaneTurned : Settings → (fsdi lane : ℕ) → (before after : LaneState) → Bool → Type 0
+abbrev pub LaneTurned : Config → (fsdi lane : ℕ) → (before after : LaneState) → Bool → Type 0
 LaneTurned settings fsdi lane before after same =
     (w : Waiting) → ShowsWaiting settings fsdi before.held before.work w → LaneCame settings fsdi lane before after w same
 
 -- A lane asked what the trace's next line says, and wrote a first part of the piece (this project's own).
 pub record HeardPart (fsdi lane : ℕ) (before after : Replaying) (written then : Option (List ℕ)) (w : Waiting) : Type 0 where
-  pub heard : Hearing
+  pub heard : Heard
   pub line : answered lane w.asks before ≡ (Some heard, after)
   pub part : AppendsPrefix written then (heard_piece fsdi lane w heard).text
 
 -- So it is for whatever the lane showed (this project's own).
-abbrev pub LaneCut : Settings → (fsdi lane : ℕ) → (before : LaneState) (after : Replaying) → Option (List ℕ) → Type 0
+abbrev pub LaneCut : Config → (fsdi lane : ℕ) → (before : LaneState) (after : Replaying) → Option (List ℕ) → Type 0
 LaneCut settings fsdi lane before after written =
     (w : Waiting) → ShowsWaiting settings fsdi before.held before.work w → HeardPart fsdi lane before.trace after before.written written w
 
 -- A replay after its next exchange is shown; or that one had a mismatch, and what it came to is shown (this project's own).
-abbrev pub Stepped : Settings → ℕ → (count : ℕ) → Option (List ℕ) → ReplayState → LaneReplay → Bool → Type 0
+abbrev pub Stepped : Config → ℕ → (count : ℕ) → Option (List ℕ) → ReplayState → LaneReplay → Bool → Type 0
 Stepped settings fsdi count start after r true = Shows settings fsdi start after r
 Stepped settings fsdi count start after r false = HasStopped count r × ShowsEnd start after r
 
 -- A turn was taken: what showed a replay shows it after its next exchange (this project's own).
-abbrev pub TurnTaken : Settings → ℕ → (before after : ReplayState) → Bool → Type 0
+abbrev pub TurnTaken : Config → ℕ → (before after : ReplayState) → Bool → Type 0
 TurnTaken settings fsdi before after same =
     (start : Option (List ℕ)) (r : LaneReplay) → Shows settings fsdi start before r →
     Stepped settings fsdi (length before.works) start after (replay_step fsdi (length before.works) r) same
 
 -- A turn was cut short: a first part of the replay's text after its next exchange was written (this project's own).
-abbrev pub TurnCut : Settings → ℕ → (before : ReplayState) → Option (List ℕ) → Type 0
+abbrev pub TurnCut : Config → ℕ → (before : ReplayState) → Option (List ℕ) → Type 0
 TurnCut settings fsdi before written =
     (start : Option (List ℕ)) (r : LaneReplay) → Shows settings fsdi start before r →
     AppendsPrefix start written (replay_step fsdi (length before.works) r).text

@@ -1,14 +1,14 @@
 //! How a lane's next transactions are opened in a replay.
 ghost use Rattle.std.specs.Prelude.{◌≡◌, ◌≢◌, ◌≤◌, ◌+◌, ℕ, true, false, IfOk, OnOk, OnErr, IsErr, is_some};
 ghost use Rattle.std.specs.Io.KnownBytes.{Appends};
-ghost use Rattle.ep_base.specs.Causes.{HasCause};
-ghost use Rattle.ep_base.specs.Io.{AppendsPrefix};
-ghost use Rattle.ep_base.specs.WrittenText.{event_lines};
+ghost use Rattle.ep_base.specs.Streams.Causes.{HasCause};
+ghost use Rattle.ep_base.specs.Streams.Io.{AppendsPrefix};
+ghost use Rattle.ep_claim.specs.Text.WrittenText.{event_lines};
 ghost use Rattle.ep_lanes.specs.Lanes.{count_of, has_open, is_live, lane_of};
-ghost use Rattle.law_lane.specs.Standing.{events_of, started};
+ghost use Rattle.ep_claim.specs.Lanes.Standing.{events_of, started};
 ghost use Rattle.lane_report.specs.Shows.{held_of};
 ghost use Rattle.lane_report.specs.Works.{talk_in};
-ghost use Rattle.lane_replay.specs.LaneText.{opens};
+ghost use Rattle.ep_claim.specs.Lanes.ReplayText.{opens};
 ghost use Rattle.lane_replay.specs.Shows.{IsOpened, ShowsLane, talks_of};
 ghost use Rattle.lane_replay.specs.Turned.{BegunLane};
 

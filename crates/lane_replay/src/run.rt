@@ -1,8 +1,8 @@
 //! The replay of all lanes.
 ghost use Rattle.std.specs.Prelude.{◌≡◌, ◌≤◌, All, length, IfErr, OnOk, OnErr, IsErr, IsErrAnd, None, is_some};
-ghost use Rattle.ep_base.specs.Causes.{HasCause};
-ghost use Rattle.ep_base.specs.Io.{AppendsPrefix};
-ghost use Rattle.ep_base.specs.ReplayRun.{begun};
+ghost use Rattle.ep_base.specs.Streams.Causes.{HasCause};
+ghost use Rattle.ep_base.specs.Streams.Io.{AppendsPrefix};
+ghost use Rattle.ep_claim.specs.Lanes.ReplayRun.{begun};
 ghost use Rattle.ep_lanes.specs.Lanes.{new_lanes};
 ghost use Rattle.trace_io.specs.Replays.{replaying_of};
 ghost use Rattle.lane_report.specs.Shows.{held_of};
@@ -10,7 +10,7 @@ ghost use Rattle.lane_replay.specs.Ends.{Ended, IsSinkFault};
 ghost use Rattle.lane_replay.specs.Made.{TurnsCut, TurnsMade};
 ghost use Rattle.lane_replay.specs.Replayed.{IsFirst, LanesOpened, Replayed};
 ghost use Rattle.lane_replay.specs.Shows.{Fits, all_talks};
-ghost use Rattle.lane_replay.specs.WholeReplay.{opening_text};
+ghost use Rattle.ep_claim.specs.Lanes.WholeReplay.{opening_text};
 
 use crate::ending::{ReplayEnd, copy_mismatch};
 use crate::opening::begin_next;

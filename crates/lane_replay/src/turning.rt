@@ -1,7 +1,7 @@
 //! A turn of a replay: one exchange of one lane, which is compared with the trace's next line.
 ghost use Rattle.std.specs.Prelude.{◌≡◌, ◌≢◌, ◌≤◌, ◌<◌, ℕ, true, Some, IfOk, OnOk, OnErr, IsErr, is_some, length};
 ghost use Rattle.arrayvec.specs.ArrayVec.{array_vec_len};
-ghost use Rattle.ep_base.specs.Causes.{HasCause};
+ghost use Rattle.ep_base.specs.Streams.Causes.{HasCause};
 ghost use Rattle.ep_lanes.specs.Lanes.{count_of, has_open, is_live, lane_of, next_lane, next_of};
 ghost use Rattle.ep_lanes.specs.Saying.{is_goes};
 ghost use Rattle.session_phases.specs.Told.{told_by};

@@ -5,7 +5,7 @@ use Rattle.std.specs.declared.option.Option.{Option}
 use Rattle.std.specs.Io.KnownBytes.{Appends}
 use Rattle.std.proofs.Math.Seq.{take-append-add}
 use Rattle.std.proofs.lemmas.List.{take-append-le}
-use Rattle.ep_base.specs.Io.{AppendsPrefix}
+use Rattle.ep_base.specs.Streams.Io.{AppendsPrefix}
 use Rattle.ep_base.proofs.Known.{appends_more}
 use Rattle.ep_lanes.proofs.Numbering.{is_none}
 use Rattle.lane_report.specs.Written.{with_text}

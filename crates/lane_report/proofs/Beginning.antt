@@ -2,16 +2,16 @@
 use Rattle.std.proofs.Common.{◌≡◌, ℕ, ◌+◌, List, [], ◌∷◌, ◌++◌, map, refl, sym, ap, subst, ◌∙◌, true, false}
 use Rattle.std.specs.Prelude.{Option, Some, None, is_some}
 use Rattle.std.proofs.lemmas.List.{append-nil}
-use Rattle.ep_base.specs.Configuration.{Settings}
-use Rattle.ep_base.specs.Hearing.{Asked}
-use Rattle.ep_base.specs.Kernel.{Scripted}
-use Rattle.ep_base.specs.PreProcessing.{prepared}
-use Rattle.ep_base.specs.Said.{Said}
-use Rattle.ep_base.specs.Talk.{Talk}
-use Rattle.ep_base.specs.WrittenText.{event_lines}
+use Rattle.ep_rules.specs.EntryPoint.Configuration.{Config}
+use Rattle.ep_base.specs.Air.Heard.{Ask}
+use Rattle.ep_rules.specs.EntryPoint.Kernel.{Scripted}
+use Rattle.ep_rules.specs.EntryPoint.PreProcessing.{prepared}
+use Rattle.ep_rules.specs.EntryPoint.Event.{Said}
+use Rattle.ep_rules.specs.EntryPoint.Talk.{Talk}
+use Rattle.ep_claim.specs.Text.WrittenText.{event_lines}
 use Rattle.entry_session.specs.Perfect.{talk_of}
-use Rattle.law_lane.specs.Standing.{asked_by, events_of, started}
-use Rattle.law_turns.specs.LaneText.{Job, Piece, opens, opens_by}
+use Rattle.ep_claim.specs.Lanes.Standing.{asked_by, events_of, started}
+use Rattle.ep_claim.specs.Lanes.LaneText.{Job, Piece, opens, opens_by}
 use Rattle.ep_lanes.specs.Lanes.{LaneHeld, no_lane}
 use Rattle.ep_lanes.specs.Turns.{Tells}
 use Rattle.ep_lanes.specs.declared.exchange.Turned.{Turned}
@@ -22,7 +22,7 @@ use Rattle.lane_report.specs.Begun.{BegunLane, asked_first, begun_text, closing_
 use Rattle.lane_report.specs.Shows.{FitsLane, ShowsLane}
 use Rattle.lane_report.specs.Works.{LaneWork, job_of, jobs_of, preparation, talk_in}
 
-same_preparation : (settings : Settings) (w : Work) (p : Preparation) → p.list ≡ prepared settings w.txn_type w.amount → p.txn_type ≡ w.txn_type
+same_preparation : (settings : Config) (w : Work) (p : Preparation) → p.list ≡ prepared settings w.txn_type w.amount → p.txn_type ≡ w.txn_type
     → p.amount ≡ w.amount
     → p ≡ preparation settings w
 same_preparation settings w p l t a =
@@ -31,7 +31,7 @@ same_preparation settings w p l t a =
     ∙ ap (λ xs. record { txn_type = w.txn_type; amount = w.amount; list = xs }) l
 
 -- The talk that is begun is the transaction's.
-pub same_talk : (settings : Settings) (w v : Work) (p : Preparation) → w ≡ v
+pub same_talk : (settings : Config) (w v : Work) (p : Preparation) → w ≡ v
     → p.list ≡ prepared settings w.txn_type w.amount → p.txn_type ≡ w.txn_type → p.amount ≡ w.amount → talk_of p w.scripts ≡ talk_in settings v
 same_talk settings w v p e l t a = ap (λ q. talk_of q w.scripts) (same_preparation settings w p l t a) ∙ ap (λ (x : Work). talk_in settings x) e
 
@@ -40,7 +40,7 @@ pub asked_when : (fsdi : ℕ) (talk : Talk) (end : _) → Tells (Ended end) fsdi
 asked_when fsdi talk end h = ap (λ d. asked_by fsdi d) h.stopped
 
 module _ (lane txn : ℕ) (j : Job) where
-  goes_text : (o : Option Asked) → is_some o ≡ true → begun_text lane txn j o ≡ event_lines lane txn (events_of j.talk (started j.talk)) ++ []
+  goes_text : (o : Option Ask) → is_some o ≡ true → begun_text lane txn j o ≡ event_lines lane txn (events_of j.talk (started j.talk)) ++ []
   goes_text (Some ask) e = sym (append-nil (event_lines lane txn (events_of j.talk (started j.talk))))
   goes_text None e = let never : false ≡ true = e in cc
 
@@ -50,29 +50,29 @@ module _ (lane txn : ℕ) (j : Job) where
   said_first fsdi (Ended end) h = ap (λ o. begun_text lane txn j o) (asked_when fsdi j.talk end h)
 
   -- what comes after what is written when the transaction is begun
-  abbrev pub begun_more : Option Asked → Piece → List ℕ
+  abbrev pub begun_more : Option Ask → Piece → List ℕ
   begun_more (Some ask) rest = []
   begun_more None rest = rest.text
 
-  pub opens_split : (left : List Job) (rest : Piece) (o : Option Asked)
+  pub opens_split : (left : List Job) (rest : Piece) (o : Option Ask)
       → (opens_by lane txn j left rest o).text ≡ begun_text lane txn j o ++ begun_more o rest
   opens_split left rest (Some ask) = sym (append-nil (event_lines lane txn (events_of j.talk (started j.talk))))
   opens_split left rest None = refl
 
-  pub more_passed : (rest : Piece) (o : Option Asked) → false ≡ is_some o → begun_more o rest ≡ rest.text
+  pub more_passed : (rest : Piece) (o : Option Ask) → false ≡ is_some o → begun_more o rest ≡ rest.text
   more_passed rest None e = refl
   more_passed rest (Some ask) e = let never : false ≡ true = e in cc
 
-  pub more_none : (rest : Piece) (o : Option Asked) → true ≡ is_some o → begun_more o rest ≡ []
+  pub more_none : (rest : Piece) (o : Option Ask) → true ≡ is_some o → begun_more o rest ≡ []
   more_none rest (Some ask) e = refl
   more_none rest None e = let never : true ≡ false = e in cc
 
-  pub going_passed : (left : List Job) (rest : Piece) (o : Option Asked) → false ≡ is_some o → (opens_by lane txn j left rest o).going ≡ rest.going
+  pub going_passed : (left : List Job) (rest : Piece) (o : Option Ask) → false ≡ is_some o → (opens_by lane txn j left rest o).going ≡ rest.going
   going_passed left rest None e = refl
   going_passed left rest (Some ask) e = let never : false ≡ true = e in cc
 
 -- The text of a transaction that is begun: the lines of its events, and those of its log where it has ended.
-pub first_text : (settings : Settings) (fsdi lane n txn : ℕ) (w v : Work) (p : Preparation) (turned : Turned) (said : List Said) → w ≡ v
+pub first_text : (settings : Config) (fsdi lane n txn : ℕ) (w v : Work) (p : Preparation) (turned : Turned) (said : List Said) → w ≡ v
     → p.list ≡ prepared settings w.txn_type w.amount → p.txn_type ≡ w.txn_type → p.amount ≡ w.amount → n ≡ txn
     → said ≡ events_of (talk_of p w.scripts) (started (talk_of p w.scripts)) → Tells turned fsdi (talk_of p w.scripts) (started (talk_of p w.scripts))
     → begun_text lane txn (job_of settings v) (asked_first fsdi (job_of settings v)) ≡ event_lines lane n said ++ closing_text turned lane n w.field.log
@@ -84,7 +84,7 @@ first_text settings fsdi lane n txn w v p turned said e l t a number told tells 
     ∙ ap (λ said. event_lines lane txn said ++ closing_text turned lane txn w.field.log) (sym (told ∙ ap (λ (x : Talk). events_of x (started x)) talk))
     ∙ ap (λ k. event_lines lane k said ++ closing_text turned lane k w.field.log) (sym number)
 
-module _ (settings : Settings) (fsdi lane : ℕ) where
+module _ (settings : Config) (fsdi lane : ℕ) where
   -- the piece with which a lane's next transactions are opened
   abbrev pub here : LaneWork → Piece
   here work = opens fsdi lane (work.txn + 1) (jobs_of settings work)
@@ -131,7 +131,7 @@ module _ (settings : Settings) (fsdi lane : ℕ) where
           ∙ ap (λ l. begun_text lane taken.txn (job_of settings w) (asked_first fsdi (job_of settings w)) ++ l)
           (more_none lane taken.txn (job_of settings w) (here taken) (asked_first fsdi (job_of settings w)) b.asked)
 
-      shows_by : BegunLane settings fsdi w held taken begun true → held.live ≡ true → (o : Option Asked) → true ≡ is_some o
+      shows_by : BegunLane settings fsdi w held taken begun true → held.live ≡ true → (o : Option Ask) → true ≡ is_some o
           → ShowsLane settings fsdi held begun (opens_by lane taken.txn (job_of settings w) (jobs_of settings taken) (here taken) o).going
       shows_by b live (Some ask) e = record {
         live = live;

@@ -2,15 +2,15 @@
 use Rattle.std.proofs.Common.{◌≡◌, ℕ, ◌+◌, List, ◌++◌, map, sym, ap, subst, ◌∙◌}
 use Rattle.std.specs.Prelude.{Option, Some, Result, Ok, Err, OnOk, OnErr, unwrap_or}
 use Rattle.std.specs.Io.KnownBytes.{Appends}
-use Rattle.ep_base.specs.Configuration.{Settings}
-use Rattle.ep_base.specs.Field.{Field}
-use Rattle.ep_base.specs.Io.{AppendsPrefix}
-use Rattle.ep_base.specs.Kernel.{Scripted}
-use Rattle.ep_base.specs.WrittenText.{log_lines}
+use Rattle.ep_rules.specs.EntryPoint.Configuration.{Config}
+use Rattle.ep_base.specs.Cards.Field.{Field}
+use Rattle.ep_base.specs.Streams.Io.{AppendsPrefix}
+use Rattle.ep_rules.specs.EntryPoint.Kernel.{Scripted}
+use Rattle.ep_claim.specs.Text.WrittenText.{log_lines}
 use Rattle.ep_base.proofs.Known.{appends_more}
-use Rattle.law_lane.specs.Exchanges.{Lane}
-use Rattle.law_lane.specs.Standing.{asked_by}
-use Rattle.law_turns.specs.LaneText.{Going, Piece, after_text, goes_on, opens}
+use Rattle.ep_claim.specs.Lanes.Exchanges.{Lane}
+use Rattle.ep_claim.specs.Lanes.Standing.{asked_by}
+use Rattle.ep_claim.specs.Lanes.LaneText.{Going, Piece, after_text, goes_on, opens}
 use Rattle.ep_lanes.specs.Lanes.{LaneHeld}
 use Rattle.ep_lanes.specs.declared.exchange.Turned.{Turned}
 use Rattle.ep_lanes.specs.declared.exchange.Turned.TheVariants.{Ended}
@@ -24,7 +24,7 @@ use Rattle.lane_report.proofs.Beginning.{here}
 pub some_same : {A : Type 0} (x y : A) → Some x ≡ Some y → x ≡ y
 some_same x y e = ap (λ o. unwrap_or o y) e
 
-module _ (settings : Settings) (fsdi lane n : ℕ) (work taken : LaneWork) (left : taken.left ≡ work.left) (same : taken.txn ≡ work.txn)
+module _ (settings : Config) (fsdi lane n : ℕ) (work taken : LaneWork) (left : taken.left ≡ work.left) (same : taken.txn ≡ work.txn)
     (number : n ≡ taken.txn)
     (records : List (ℕ × List ℕ)) (log_is : (f : Field) → work.field ≡ Some f → records ≡ f.log) where
   same_here : here settings fsdi lane taken ≡ here settings fsdi lane work
@@ -65,7 +65,7 @@ module _ (settings : Settings) (fsdi lane n : ℕ) (work taken : LaneWork) (left
   closed_front a w part f e =
       prefix_front a w (log_lines lane work.txn f.log) (here settings fsdi lane work).text (subst (λ l. AppendsPrefix a w l) (lines_are f e) part)
 
-module _ (settings : Settings) (fsdi lane : ℕ) (held : LaneHeld Scripted) (work : LaneWork) (g : Going) (l : Lane) where
+module _ (settings : Config) (fsdi lane : ℕ) (held : LaneHeld Scripted) (work : LaneWork) (g : Going) (l : Lane) where
   -- what follows the end is the log and what comes next
   ended_piece : (end : _) → IsAfter settings fsdi held work (Ended end) g l
       → goes_on fsdi lane g l (asked_by fsdi l.standing.doing) ≡ after_text (log_lines lane work.txn l.field.log) (here settings fsdi lane work)

@@ -3,17 +3,17 @@ use Rattle.std.proofs.Common.{◌≡◌, ℕ, ◌*◌, ◌≤◌, ◌==◌, List
 use Rattle.std.proofs.lemmas.List.{length-map}
 use Rattle.std.proofs.lemmas.List.Sums.{length-filter}
 use Rattle.std.proofs.lemmas.List.Elements.{All-head, All-tail, All-map, All-weaker}
-use Rattle.ep_base.specs.Configuration.{Combination, Settings, count_of}
-use Rattle.ep_base.specs.Kernel.{Script, steps_left, running_left, running_count}
-use Rattle.ep_base.specs.PreProcessing.{prepared, prepared_one}
+use Rattle.ep_rules.specs.EntryPoint.Configuration.{Combination, Config, count_of}
+use Rattle.ep_rules.specs.EntryPoint.Kernel.{Script, steps_left, running_left, running_count}
+use Rattle.ep_rules.specs.EntryPoint.PreProcessing.{prepared, prepared_one}
 use Rattle.law_turns.specs.Growing.{IsShort, IsShortLane, AreShort}
-use Rattle.law_turns.specs.LaneText.{Job}
+use Rattle.ep_claim.specs.Lanes.LaneText.{Job}
 use Rattle.scenario.specs.Scene.{Work}
 use Rattle.lane_report.specs.Reports.{IsFew, IsNewWork}
 use Rattle.lane_report.specs.Works.{LaneWork, job_of, talk_in, jobs_of, all_jobs}
 
 -- Pre-Processing leaves as many Combinations as the configuration has of the type.
-prepared_count : (settings : Settings) (txn_type amount : ℕ) → length (prepared settings txn_type amount) ≡ count_of txn_type settings.list
+prepared_count : (settings : Config) (txn_type amount : ℕ) → length (prepared settings txn_type amount) ≡ count_of txn_type settings.list
 prepared_count settings txn_type amount =
     length-map (filter (λ (c : Combination). c.txn_type == txn_type) settings.list) (prepared_one settings.exponent amount)
     ∙ length-filter (λ (c : Combination). c.txn_type == txn_type) settings.list
@@ -25,7 +25,7 @@ steps_few (s ∷ scripts) few =
     let rest = steps_few scripts (All-tail (λ (s : Script). length s.steps ≤ 16) s scripts few) in
     omega (arith, first, rest)
 
-few_short : (settings : Settings) (w : Work) → IsFew settings w → IsShort (talk_in settings w)
+few_short : (settings : Config) (w : Work) → IsFew settings w → IsShort (talk_in settings w)
 few_short settings w few =
     let none : running_count w.scripts.running ≡ 0 = ap running_count few.rests in
     let nothing : running_left w.scripts.running ≡ 0 = ap running_left few.rests in
@@ -43,7 +43,7 @@ few_short settings w few =
       sends = few.sends;
     }
 
-new_short : (settings : Settings) (work : LaneWork) → IsNewWork settings work → IsShortLane (jobs_of settings work)
+new_short : (settings : Config) (work : LaneWork) → IsNewWork settings work → IsShortLane (jobs_of settings work)
 new_short settings work new = record {
   few = subst (λ n. n ≤ 64) (sym (length-map work.left (job_of settings))) new.short;
   short =
@@ -51,7 +51,7 @@ new_short settings work new = record {
       (All-weaker (IsFew settings) (λ w. IsShort (talk_in settings w)) (few_short settings) work.left new.few);
 }
 
-pub all_short : (settings : Settings) (works : List LaneWork) → length works ≤ 8 → All (IsNewWork settings) works → AreShort (all_jobs settings works)
+pub all_short : (settings : Config) (works : List LaneWork) → length works ≤ 8 → All (IsNewWork settings) works → AreShort (all_jobs settings works)
 all_short settings works few new = record {
   few = subst (λ n. n ≤ 8) (sym (length-map works (jobs_of settings))) few;
   short =
@@ -59,5 +59,5 @@ all_short settings works few new = record {
       (All-weaker (IsNewWork settings) (λ work. IsShortLane (jobs_of settings work)) (new_short settings) works new);
 }
 
-pub all_count : (settings : Settings) (works : List LaneWork) → length (all_jobs settings works) ≡ length works
+pub all_count : (settings : Config) (works : List LaneWork) → length (all_jobs settings works) ≡ length works
 all_count settings works = length-map works (jobs_of settings)

@@ -3,18 +3,18 @@ use Rattle.std.proofs.Common.{◌≡◌, ℕ, Bool, true, false, List, ◌++◌,
 use Rattle.std.specs.Prelude.{Option, Some, None, if◌then◌else◌}
 use Rattle.std.specs.Io.KnownBytes.{Appends}
 use Rattle.std.proofs.Math.Seq.{drop-append_seam}
-use Rattle.ep_base.specs.Configuration.{Settings}
-use Rattle.ep_base.specs.Field.{Field, field, field_reset, field_send}
-use Rattle.ep_base.specs.Hearing.{Asked, Hearing}
-use Rattle.ep_base.specs.Io.{AppendsPrefix}
-use Rattle.ep_base.specs.Kernel.{Scripted, scripted}
-use Rattle.ep_base.specs.Medium.{told, AfterReset, ExchangesBy, Exchanges}
-use Rattle.ep_base.specs.Said.{Said}
-use Rattle.ep_base.specs.WrittenText.{event_lines}
-use Rattle.law_lane.specs.Exchanges.{Lane, field_answers, or_silence}
-use Rattle.law_lane.specs.Standing.{asked_by, events_of}
-use Rattle.law_turns.specs.LaneText.{Going, Piece, added, goes_on, heard_lane, trace_part}
-use Rattle.law_turns.specs.WholeRun.{ProbeSteps}
+use Rattle.ep_rules.specs.EntryPoint.Configuration.{Config}
+use Rattle.ep_base.specs.Cards.Field.{Field, field, field_reset, field_send}
+use Rattle.ep_base.specs.Air.Heard.{Ask, Heard}
+use Rattle.ep_base.specs.Streams.Io.{AppendsPrefix}
+use Rattle.ep_rules.specs.EntryPoint.Kernel.{Scripted, scripted}
+use Rattle.ep_base.specs.Air.Medium.{told, AfterReset, ExchangesBy, Exchanges}
+use Rattle.ep_rules.specs.EntryPoint.Event.{Said}
+use Rattle.ep_claim.specs.Text.WrittenText.{event_lines}
+use Rattle.ep_claim.specs.Lanes.Exchanges.{Lane, field_answers, or_silence}
+use Rattle.ep_claim.specs.Lanes.Standing.{asked_by, events_of}
+use Rattle.ep_claim.specs.Lanes.LaneText.{Going, Piece, added, goes_on, heard_lane, trace_part}
+use Rattle.ep_claim.specs.Lanes.WholeRun.{ProbeSteps}
 use Rattle.ep_lanes.specs.Lanes.{Held, LaneHeld, Made, lane_of}
 use Rattle.ep_lanes.specs.Probing.{ProbeAnswers}
 use Rattle.ep_lanes.specs.Turns.{Makes}
@@ -27,27 +27,27 @@ use Rattle.lane_report.proofs.Appending.{whole_next, part_next, part_front}
 use Rattle.lane_report.proofs.Closing.{some_same}
 
 -- What a field answers where it may answer so.
-after_reset : (well : Bool) (ask : Asked) (u t : Field) (h : Hearing) → AfterReset (told field) well u ask (Some h) t
+after_reset : (well : Bool) (ask : Ask) (u t : Field) (h : Heard) → AfterReset (told field) well u ask (Some h) t
     → field_send u ask.wave ask.bytes ≡ (Some h, t)
 after_reset true ask u t h e = e
 after_reset false ask u t h e = let never : Some h ≡ None = e.0 in cc
 
-by_reset : (b : Bool) (ask : Asked) (f t : Field) (h : Hearing) → ExchangesBy (told field) b f ask (Some h) t
+by_reset : (b : Bool) (ask : Ask) (f t : Field) (h : Heard) → ExchangesBy (told field) b f ask (Some h) t
     → field_send (if b then field_reset f else f) ask.wave ask.bytes ≡ (Some h, t)
 by_reset false ask f t h e = e
 by_reset true ask f t h e =
     subst (λ (u : Field). field_send u ask.wave ask.bytes ≡ (Some h, t)) (sym (ap (λ (r : Bool × Field). r.1) e.2)) (after_reset e.0 ask e.1 t h e.3)
 
-answers_so : (ask : Asked) (f t : Field) (h : Hearing) → Exchanges (told field) f ask (Some h) t → field_answers ask f ≡ (Some h, t)
+answers_so : (ask : Ask) (f t : Field) (h : Heard) → Exchanges (told field) f ask (Some h) t → field_answers ask f ≡ (Some h, t)
 answers_so ask f t h e = by_reset ask.reset ask f t h e
 
-module _ {P : Type 0} (answers : ProbeAnswers P) (settings : Settings) (traced : Bool) (fsdi lane : ℕ) (before after : Held Scripted) (p q : P)
+module _ {P : Type 0} (answers : ProbeAnswers P) (settings : Config) (traced : Bool) (fsdi lane : ℕ) (before after : Held Scripted) (p q : P)
     (turned : Turned) (said : List Said) (work heard_work : LaneWork)
     (turn : (f : Field) → work.field ≡ Some f → HeardTurn answers lane before f p turned said after heard_work.field q)
     (left : heard_work.left ≡ work.left) (number : heard_work.txn ≡ work.txn) (m : Made) (last : Some m ≡ after.last) (n : ℕ)
     (written_as : n ≡ heard_work.txn)
     (steps : ProbeSteps P) (tells : Tells answers steps) (g : Going) (shows : ShowsGoing settings fsdi (lane_of before lane) work g)
-    (ask : Asked) (asked : asked_by fsdi g.lane.standing.doing ≡ Some ask) where
+    (ask : Ask) (asked : asked_by fsdi g.lane.standing.doing ≡ Some ask) where
   this : HeardTurn answers lane before g.lane.field p turned said after heard_work.field q
   this = turn g.lane.field shows.field
 
@@ -71,17 +71,17 @@ module _ {P : Type 0} (answers : ProbeAnswers P) (settings : Settings) (traced :
   answer : field_answers ask g.lane.field ≡ (Some makes.given, this.field_then)
   answer =
       answers_so ask g.lane.field this.field_then makes.given
-      (subst (λ (x : Asked). Exchanges (told field) g.lane.field x (Some makes.given) this.field_then) ask_is makes.exchange)
+      (subst (λ (x : Ask). Exchanges (told field) g.lane.field x (Some makes.given) this.field_then) ask_is makes.exchange)
 
   heard_so : heard_by steps p lane g ask ≡ (q, m.heard)
   heard_so =
-      subst (λ (h : Hearing). steps.hear p lane ask h ≡ (q, m.heard)) (sym (ap (λ (a : Option Hearing × Field). or_silence a.0) answer))
-      (subst (λ (x : Asked). steps.hear p lane x makes.given ≡ (q, m.heard)) ask_is
+      subst (λ (h : Heard). steps.hear p lane ask h ≡ (q, m.heard)) (sym (ap (λ (a : Option Heard × Field). or_silence a.0) answer))
+      (subst (λ (x : Ask). steps.hear p lane x makes.given ≡ (q, m.heard)) ask_is
       (subst (λ k. steps.hear p k m.asked makes.given ≡ (q, m.heard)) of_lane
       (tells p m.lane m.asked makes.given m.heard q makes.heard)))
 
   heard_is : (heard_by steps p lane g ask).1 ≡ m.heard
-  heard_is = ap (λ (r : P × Hearing). r.1) heard_so
+  heard_is = ap (λ (r : P × Heard). r.1) heard_so
 
   -- the transaction after the exchange
   abbrev pub then_lane : Lane
@@ -91,7 +91,7 @@ module _ {P : Type 0} (answers : ProbeAnswers P) (settings : Settings) (traced :
   is_after = record {
     stands = makes.stands g.talk fsdi g.lane.standing shows.stands;
     tells = makes.tells g.talk fsdi g.lane.standing shows.stands;
-    field = this.left_is ∙ ap Some (sym (ap (λ (a : Option Hearing × Field). a.1) answer));
+    field = this.left_is ∙ ap Some (sym (ap (λ (a : Option Heard × Field). a.1) answer));
     number = number ∙ shows.number;
     left = ap (λ ws. map (job_of settings) ws) left ∙ shows.left;
   }
@@ -112,7 +112,7 @@ module _ {P : Type 0} (answers : ProbeAnswers P) (settings : Settings) (traced :
   front_is : front ≡ trace_part traced lane ask m.heard ++ event_lines lane g.txn (added g.talk g.lane.standing then_lane.standing)
   front_is =
       ap (λ k. trace_part traced k m.asked m.heard ++ event_lines k n said) of_lane
-      ∙ ap (λ (a : Asked). trace_part traced lane a m.heard ++ event_lines lane n said) ask_is
+      ∙ ap (λ (a : Ask). trace_part traced lane a m.heard ++ event_lines lane n said) ask_is
       ∙ ap (λ k. trace_part traced lane ask m.heard ++ event_lines lane k said) (written_as ∙ number ∙ shows.number)
       ∙ ap (λ xs. trace_part traced lane ask m.heard ++ event_lines lane g.txn xs) said_is
 
@@ -126,18 +126,18 @@ module _ {P : Type 0} (answers : ProbeAnswers P) (settings : Settings) (traced :
       (record { held = held; work = next; probe = q; written = w }) g ask
   turn_wrote held next a b w wrote rest = record {
     wrote =
-        subst (λ (h : Hearing). Wrote settings fsdi held next a w (turn_piece traced fsdi lane g ask h)) (sym heard_is)
+        subst (λ (h : Heard). Wrote settings fsdi held next a w (turn_piece traced fsdi lane g ask h)) (sym heard_is)
         (record { text = whole_next a b front more.text _ whole_is wrote w rest.text; shows = rest.shows });
-    probe = sym (ap (λ (r : P × Hearing). r.0) heard_so);
+    probe = sym (ap (λ (r : P × Heard). r.0) heard_so);
   }
 
   pub turn_part : (a b w : Option (List ℕ)) → Appends a b front → AppendsPrefix b w more.text
       → AppendsPrefix a w (turn_piece traced fsdi lane g ask (heard_by steps p lane g ask).1).text
   turn_part a b w wrote rest =
-      subst (λ (h : Hearing). AppendsPrefix a w (turn_piece traced fsdi lane g ask h).text) (sym heard_is)
+      subst (λ (h : Heard). AppendsPrefix a w (turn_piece traced fsdi lane g ask h).text) (sym heard_is)
       (part_next a b front more.text _ whole_is wrote w rest)
 
   pub turn_front : (a w : Option (List ℕ)) → AppendsPrefix a w front
       → AppendsPrefix a w (turn_piece traced fsdi lane g ask (heard_by steps p lane g ask).1).text
   turn_front a w part =
-      subst (λ (h : Hearing). AppendsPrefix a w (turn_piece traced fsdi lane g ask h).text) (sym heard_is) (part_front a w front more.text _ whole_is part)
+      subst (λ (h : Heard). AppendsPrefix a w (turn_piece traced fsdi lane g ask h).text) (sym heard_is) (part_front a w front more.text _ whole_is part)

@@ -4,8 +4,8 @@ use Rattle.std.specs.Prelude.{if◌then◌else◌}
 use Rattle.std.proofs.lemmas.Bool.Decides.{eqb_tells}
 use Rattle.std.proofs.lemmas.List.{get_or_past}
 use Rattle.std.proofs.lemmas.Option.{slice_get-get_or, get_or_from_slice_get}
-use Rattle.ep_base.specs.Configuration.{Settings}
-use Rattle.law_turns.specs.Telling as runs
+use Rattle.ep_rules.specs.EntryPoint.Configuration.{Config}
+use Rattle.ep_claim.specs.Lanes.Telling as runs
 use Rattle.law_turns.proofs.Stepping.{choose}
 use Rattle.lane_report.specs.Works.{LaneWork, no_work, work_of, jobs_of, all_jobs}
 use Rattle.lane_report.proofs.Places.{placed, none_at, changed, others}
@@ -33,7 +33,7 @@ work_elsewhere works i n k w e less other =
     subst (λ j. work_of (slice_set works j w) k ≡ work_of works k) at (others works n n refl (omega (arith, e), omega (arith, e, less)) w k other)
 
 -- the transactions of a lane with a number
-module _ (settings : Settings) where
+module _ (settings : Config) where
   jobs_low : (works : List LaneWork) (first n : ℕ) → n < first → runs.jobs_of first (all_jobs settings works) n ≡ []
   jobs_low [] first n less = refl
   jobs_low (w ∷ ws) first n less =

@@ -3,12 +3,12 @@ use Rattle.std.proofs.Common.{◌≡◌, ◌≢◌, ⊎_elim, ℕ, ◌+◌, ◌-
 use Rattle.std.proofs.lemmas.Bool.Decides.{eqb_tells, leb_tells}
 use Rattle.std.proofs.lemmas.List.{get_or-replicate, length-replicate, get_or-map, drop_more, drop_all, length-map}
 use Rattle.std.proofs.lemmas.List.Elements.{All-get_or}
-use Rattle.ep_base.specs.Configuration.{Settings}
-use Rattle.ep_base.specs.Kernel.{Scripted}
+use Rattle.ep_rules.specs.EntryPoint.Configuration.{Config}
+use Rattle.ep_rules.specs.EntryPoint.Kernel.{Scripted}
 use Rattle.ep_lanes.specs.Lanes.{LaneHeld, Held, no_lane, new_lane, lane_of, count_of, new_lanes}
 use Rattle.ep_lanes.proofs.Numbering.{placed, past_all}
-use Rattle.law_turns.specs.LaneText.{opens}
-use Rattle.law_turns.specs.WholeRun.{opening_text, opened_run}
+use Rattle.ep_claim.specs.Lanes.LaneText.{opens}
+use Rattle.ep_claim.specs.Lanes.WholeRun.{opening_text, opened_run}
 use Rattle.law_turns.proofs.Owning.{opening_going}
 use Rattle.lane_report.specs.Reports.{IsNewWork}
 use Rattle.lane_report.specs.Shows.{ShowsLane, Shows, FitsLane, Fits}
@@ -23,11 +23,11 @@ new_at count turns n least most =
     placed (replicate count new_lane) n least ∙ get_or-replicate count (n - 1) new_lane no_lane (omega (arith, least, most))
 
 -- a lane shows what these transactions of it come to once they are opened
-abbrev pub ShowsBegun : Settings → (fsdi lane : ℕ) → LaneHeld Scripted → (work todo : LaneWork) → Type 0
+abbrev pub ShowsBegun : Config → (fsdi lane : ℕ) → LaneHeld Scripted → (work todo : LaneWork) → Type 0
 ShowsBegun settings fsdi lane held work todo = ShowsLane settings fsdi held work (opens fsdi lane 1 (jobs_of settings todo)).going
 
 -- so many lanes were opened, and the others are as they were
-pub record Opening (settings : Settings) (fsdi i : ℕ) (before : Held Scripted) (todo : List LaneWork) (now : Held Scripted) (works : List LaneWork) : Type 0 where
+pub record Opening (settings : Config) (fsdi i : ℕ) (before : Held Scripted) (todo : List LaneWork) (now : Held Scripted) (works : List LaneWork) : Type 0 where
   pub count : count_of now ≡ length todo
   pub size : length works ≡ length todo
   pub order : now.order ≡ before.order
@@ -36,7 +36,7 @@ pub record Opening (settings : Settings) (fsdi i : ℕ) (before : Held Scripted)
   pub waits : (n : ℕ) → i < n → (lane_of now n ≡ lane_of before n) × (work_of works n ≡ work_of todo n)
 
 -- The text of the lanes that are left begins with that of the next one.
-text_next : (settings : Settings) (fsdi lane i : ℕ) (todo : List LaneWork) (w : LaneWork) → i < length todo → w ≡ work_of todo lane → lane ≡ i + 1
+text_next : (settings : Config) (fsdi lane i : ℕ) (todo : List LaneWork) (w : LaneWork) → i < length todo → w ≡ work_of todo lane → lane ≡ i + 1
     → w.txn ≡ 0
     → opening_text fsdi lane (drop i (all_jobs settings todo))
     ≡ (opens fsdi lane (w.txn + 1) (jobs_of settings w)).text ++ opening_text fsdi (lane + 1) (drop (i + 1) (all_jobs settings todo))
@@ -53,12 +53,12 @@ text_next settings fsdi lane i todo w less is number first =
     ∙ (ap (λ js. (opens fsdi lane 1 js).text ++ rest) head ∙ ap (λ k. (opens fsdi lane k (jobs_of settings w)).text ++ rest) one)
 
 -- nothing is left behind the last one
-pub text_none : (settings : Settings) (fsdi lane i : ℕ) (todo : List LaneWork) → length todo ≤ i → opening_text fsdi lane (drop i (all_jobs settings todo)) ≡ []
+pub text_none : (settings : Config) (fsdi lane i : ℕ) (todo : List LaneWork) → length todo ≤ i → opening_text fsdi lane (drop i (all_jobs settings todo)) ≡ []
 text_none settings fsdi lane i todo over =
     let size = length-map todo (jobs_of settings) in
     ap (opening_text fsdi lane) (drop_all i (all_jobs settings todo) (omega (arith, over, size)))
 
-module _ (settings : Settings) (fsdi : ℕ) (before : Held Scripted) (todo : List LaneWork) where
+module _ (settings : Config) (fsdi : ℕ) (before : Held Scripted) (todo : List LaneWork) where
   no_one : FitsLane no_lane no_work
   no_one = record { opened = refl; field = refl }
 

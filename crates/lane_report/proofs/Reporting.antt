@@ -1,14 +1,14 @@
 -- From opened lanes and their turns to the report.
 use Rattle.std.proofs.Common.{◌≡◌, ℕ, ◌+◌, ◌≤◌, Bool, List, length, All, Option, refl, sym, subst, ◌∙◌, arith}
-use Rattle.ep_base.specs.Configuration.{Settings}
-use Rattle.ep_base.specs.Io.{AppendsPrefix}
-use Rattle.ep_base.specs.Kernel.{Scripted}
+use Rattle.ep_rules.specs.EntryPoint.Configuration.{Config}
+use Rattle.ep_base.specs.Streams.Io.{AppendsPrefix}
+use Rattle.ep_rules.specs.EntryPoint.Kernel.{Scripted}
 use Rattle.ep_lanes.specs.Lanes.{Held}
 use Rattle.ep_lanes.specs.Probing.{ProbeAnswers}
-use Rattle.law_turns.specs.Ending.{HasEnded}
+use Rattle.ep_claim.specs.Lanes.Ending.{HasEnded}
 use Rattle.law_turns.specs.Growing.{most_exchanges}
-use Rattle.law_turns.specs.LaneText.{Job}
-use Rattle.law_turns.specs.WholeRun.{ProbeSteps, opening_text, run_after}
+use Rattle.ep_claim.specs.Lanes.LaneText.{Job}
+use Rattle.ep_claim.specs.Lanes.WholeRun.{ProbeSteps, opening_text, run_after}
 use Rattle.law_turns.proofs.Growing.{texts_grow_law, runs_end_in_most_law}
 use Rattle.lane_report.specs.Made.{ShownRun, TurnsMade, TurnsCut}
 use Rattle.lane_report.specs.Reports.{IsNewWork, LanesOpened, Reports, ReportsPart}
@@ -21,7 +21,7 @@ use Rattle.lane_report.proofs.Few.{all_short, all_count}
 abbrev pub state_of : {P : Type 0} → P → Held Scripted → List LaneWork → Option (List ℕ) → ReportState P
 state_of p lanes works written = record { lanes = lanes; works = works; probe = p; written = written }
 
-module _ {P : Type 0} (answers : ProbeAnswers P) (settings : Settings) (traced : Bool) (fsdi : ℕ) (turns : List ℕ) (p : P)
+module _ {P : Type 0} (answers : ProbeAnswers P) (settings : Config) (traced : Bool) (fsdi : ℕ) (turns : List ℕ) (p : P)
     (lanes : Held Scripted) (works : List LaneWork) (written : Option (List ℕ)) (few : length works ≤ 8) (new : All (IsNewWork settings) works) where
   abbrev jobs : List (List Job)
   jobs = all_jobs settings works

@@ -1,18 +1,18 @@
 -- Runs that are shown, turn by turn, and their ends.
 use Rattle.std.proofs.Common.{◌≡◌, ℕ, suc, ◌+◌, ◌-◌, ◌<◌, ◌≤◌, Bool, List, length, refl, sym, ap, subst, ◌∙◌, arith, Option, Some, None, is_some}
-use Rattle.ep_base.specs.Configuration.{Settings}
-use Rattle.ep_base.specs.Io.{AppendsPrefix}
-use Rattle.ep_base.specs.Kernel.{Scripted}
-use Rattle.ep_base.specs.Lanes.{times}
+use Rattle.ep_rules.specs.EntryPoint.Configuration.{Config}
+use Rattle.ep_base.specs.Streams.Io.{AppendsPrefix}
+use Rattle.ep_rules.specs.EntryPoint.Kernel.{Scripted}
+use Rattle.ep_claim.specs.Lanes.Steps.{times}
 use Rattle.ep_lanes.specs.Lanes.{LaneHeld, lane_of, is_live, count_of, next_of, lane_in, next_lane}
 use Rattle.ep_lanes.specs.Probing.{ProbeAnswers}
 use Rattle.ep_lanes.proofs.Ordering.{same_turn}
-use Rattle.law_turns.specs.Ending.{HasEnded}
+use Rattle.ep_claim.specs.Lanes.Ending.{HasEnded}
 use Rattle.law_turns.specs.Growing.{most_exchanges, most_of_one}
-use Rattle.law_turns.specs.LaneText.{Going}
-use Rattle.law_turns.specs.Order.{Order, next_turn}
-use Rattle.law_turns.specs.WholeRun.{ProbeSteps, Run, run_step, opened_run, run_after}
-use Rattle.law_turns.specs.WholeRun as runs
+use Rattle.ep_claim.specs.Lanes.LaneText.{Going}
+use Rattle.ep_claim.specs.Lanes.Order.{Order, next_turn}
+use Rattle.ep_claim.specs.Lanes.WholeRun.{ProbeSteps, Run, run_step, opened_run, run_after}
+use Rattle.ep_claim.specs.Lanes.WholeRun as runs
 use Rattle.law_turns.proofs.Growing.{texts_grow_law, runs_end_in_most_law}
 use Rattle.law_turns.proofs.Stepping.{times_end}
 use Rattle.lane_report.specs.Made.{ShownRun, EndCut, TurnsMade, TurnsCut}
@@ -28,7 +28,7 @@ most_number = refl
 
 -- ---- whose turn it is
 
-live_same : (settings : Settings) (fsdi : ℕ) (held : LaneHeld Scripted) (work : LaneWork) (g : Option Going) → ShowsLane settings fsdi held work g
+live_same : (settings : Config) (fsdi : ℕ) (held : LaneHeld Scripted) (work : LaneWork) (g : Option Going) → ShowsLane settings fsdi held work g
     → held.live ≡ is_some g
 live_same settings fsdi held work None e = ap (λ l. l.live) e
 live_same settings fsdi held work (Some g) s = s.live
@@ -38,7 +38,7 @@ none_next None e = refl
 none_next (Some t) e = let never : Some t.0 ≡ None = e in cc
 
 -- where it is no lane's turn, the run that is shown has ended
-pub shown_over : {P : Type 0} (settings : Settings) (fsdi : ℕ) (start : Option (List ℕ)) (s : ReportState P) (run : Run P) (count : ℕ)
+pub shown_over : {P : Type 0} (settings : Config) (fsdi : ℕ) (start : Option (List ℕ)) (s : ReportState P) (run : Run P) (count : ℕ)
     → Shows settings fsdi start s run → count_of s.lanes ≡ count → next_lane s.lanes ≡ None → HasEnded count run
 shown_over settings fsdi start s run count shows size none =
     let same = same_turn (is_live s.lanes) (runs.is_live run)
@@ -51,12 +51,12 @@ shown_over settings fsdi start s run count shows size none =
 -- ---- turns that were made
 
 -- so many turns were made: what showed a run shows it after so many exchanges
-abbrev pub TurnsTaken : {P : Type 0} → ProbeAnswers P → Settings → Bool → ℕ → ℕ → (before after : ReportState P) → Type 0
+abbrev pub TurnsTaken : {P : Type 0} → ProbeAnswers P → Config → Bool → ℕ → ℕ → (before after : ReportState P) → Type 0
 TurnsTaken {P} answers settings traced fsdi n before after =
     (steps : ProbeSteps P) → Tells answers steps → (start : Option (List ℕ)) (run : Run P) → Shows settings fsdi start before run →
     Shows settings fsdi start after (times (run_step traced steps fsdi (length before.works)) n run)
 
-module _ {P : Type 0} (answers : ProbeAnswers P) (settings : Settings) (traced : Bool) (fsdi : ℕ) (before : ReportState P) where
+module _ {P : Type 0} (answers : ProbeAnswers P) (settings : Config) (traced : Bool) (fsdi : ℕ) (before : ReportState P) where
   pub none_taken : TurnsTaken answers settings traced fsdi 0 before before
   none_taken = λ steps tells start run shows. shows
 

@@ -2,15 +2,15 @@
 use Rattle.std.proofs.Common.{◌≡◌, ◌≢◌, ⊎_elim, ℕ, ◌==◌, ◌≤◌, Bool, true, false, List, length, refl, sym, ap, subst, ◌∙◌}
 use Rattle.std.specs.Prelude.{Option, Some, None, is_some, if◌then◌else◌}
 use Rattle.std.proofs.lemmas.Bool.Decides.{eqb_tells}
-use Rattle.ep_base.specs.Configuration.{Settings}
-use Rattle.ep_base.specs.Hearing.{Asked}
-use Rattle.ep_base.specs.Io.{AppendsPrefix}
-use Rattle.ep_base.specs.Kernel.{Scripted, scripted}
-use Rattle.law_lane.specs.Standing.{asked_by}
-use Rattle.law_turns.specs.LaneText.{Going, Piece}
-use Rattle.law_turns.specs.Order.{Order, next_turn}
-use Rattle.law_turns.specs.WholeRun.{ProbeSteps, Run, asks, run_step, takes_turn, turn_of}
-use Rattle.law_turns.specs.WholeRun as runs
+use Rattle.ep_rules.specs.EntryPoint.Configuration.{Config}
+use Rattle.ep_base.specs.Air.Heard.{Ask}
+use Rattle.ep_base.specs.Streams.Io.{AppendsPrefix}
+use Rattle.ep_rules.specs.EntryPoint.Kernel.{Scripted, scripted}
+use Rattle.ep_claim.specs.Lanes.Standing.{asked_by}
+use Rattle.ep_claim.specs.Lanes.LaneText.{Going, Piece}
+use Rattle.ep_claim.specs.Lanes.Order.{Order, next_turn}
+use Rattle.ep_claim.specs.Lanes.WholeRun.{ProbeSteps, Run, asks, run_step, takes_turn, turn_of}
+use Rattle.ep_claim.specs.Lanes.WholeRun as runs
 use Rattle.ep_lanes.specs.Lanes.{Held, LaneHeld, OpenTransaction, count_of, is_live, lane_of, next_lane, next_of}
 use Rattle.ep_lanes.specs.Probing.{ProbeAnswers}
 use Rattle.ep_lanes.proofs.Numbering.{live_there}
@@ -30,7 +30,7 @@ pub next_there : (h : Held Scripted) (works : List LaneWork) (lane : ℕ) → Fi
 next_there h works lane fits e = subst (λ n. (1 ≤ lane) × (lane ≤ n)) fits.count (live_there h.lanes lane (next_live h lane e))
 
 -- A lane is live exactly where the run's has an exchange left.
-live_shown : (settings : Settings) (fsdi : ℕ) (held : LaneHeld Scripted) (work : LaneWork) (o : Option Going) → ShowsLane settings fsdi held work o
+live_shown : (settings : Config) (fsdi : ℕ) (held : LaneHeld Scripted) (work : LaneWork) (o : Option Going) → ShowsLane settings fsdi held work o
     → held.live ≡ is_some o
 live_shown settings fsdi held work None h = ap (λ (l : LaneHeld Scripted). l.live) h
 live_shown settings fsdi held work (Some g) h = h.live
@@ -38,16 +38,16 @@ live_shown settings fsdi held work (Some g) h = h.live
 -- A lane with an open transaction asks something.
 asks_some : (fsdi : ℕ) (g : Going) (held : LaneHeld Scripted) (t : Option (OpenTransaction Scripted)) → held.transaction ≡ t → is_some t ≡ true
     → ((t : OpenTransaction Scripted) → held.transaction ≡ Some t → asked_by fsdi g.lane.standing.doing ≡ Some t.asks)
-    → (ask : Asked) × (asked_by fsdi g.lane.standing.doing ≡ Some ask)
+    → (ask : Ask) × (asked_by fsdi g.lane.standing.doing ≡ Some ask)
 asks_some fsdi g held (Some t) is opened asks_of = (t.asks, asks_of t is)
 asks_some fsdi g held None is opened asks_of = let never : false ≡ true = opened in cc
 
-asked_of : (settings : Settings) (fsdi : ℕ) (held : LaneHeld Scripted) (work : LaneWork) (g : Going) → ShowsGoing settings fsdi held work g
-    → (ask : Asked) × (asked_by fsdi g.lane.standing.doing ≡ Some ask)
+asked_of : (settings : Config) (fsdi : ℕ) (held : LaneHeld Scripted) (work : LaneWork) (g : Going) → ShowsGoing settings fsdi held work g
+    → (ask : Ask) × (asked_by fsdi g.lane.standing.doing ≡ Some ask)
 asked_of settings fsdi held work g h =
     asks_some fsdi g held held.transaction refl h.opened (λ t is. asks_then scripted g.talk fsdi g.lane.standing held t is h.stands)
 
-module _ {P : Type 0} (settings : Settings) (traced : Bool) (fsdi lane : ℕ) (before : ReportState P) (order : Order)
+module _ {P : Type 0} (settings : Config) (traced : Bool) (fsdi lane : ℕ) (before : ReportState P) (order : Order)
     (turn : next_of before.lanes ≡ Some (lane, order)) (count : count_of before.lanes ≡ length before.works) (live : is_live before.lanes lane ≡ true)
     (steps : ProbeSteps P) (start : Option (List ℕ)) (run : Run P) (shows : Shows settings fsdi start before run) where
   same_live : (n : ℕ) → is_live before.lanes n ≡ runs.is_live run n
@@ -61,7 +61,7 @@ module _ {P : Type 0} (settings : Settings) (traced : Bool) (fsdi lane : ℕ) (b
 
   -- what holds of the exchange of the lane whose turn it is, holds of the run's
   module _ (Q : Run P → Type 0)
-      (each : (g : Going) → ShowsGoing settings fsdi (lane_of before.lanes lane) (work_of before.works lane) g → (ask : Asked)
+      (each : (g : Going) → ShowsGoing settings fsdi (lane_of before.lanes lane) (work_of before.works lane) g → (ask : Ask)
       → asked_by fsdi g.lane.standing.doing ≡ Some ask → Q (asks traced steps fsdi lane order g (Some ask) run)) where
     by_going : (o : Option Going) → run.lanes lane ≡ o → Q (turn_of traced steps fsdi lane order o run)
     by_going None e = let never : true ≡ false = sym live ∙ same_live lane ∙ ap is_some e in cc
@@ -69,13 +69,13 @@ module _ {P : Type 0} (settings : Settings) (traced : Bool) (fsdi lane : ℕ) (b
         let shown : ShowsGoing settings fsdi (lane_of before.lanes lane) (work_of before.works lane) g =
         subst (λ o. ShowsLane settings fsdi (lane_of before.lanes lane) (work_of before.works lane) o) e (shows.each lane) in
         let asked = asked_of settings fsdi (lane_of before.lanes lane) (work_of before.works lane) g shown in
-        subst (λ (a : Option Asked). Q (asks traced steps fsdi lane order g a run)) (sym asked.1) (each g shown asked.0 asked.1)
+        subst (λ (a : Option Ask). Q (asks traced steps fsdi lane order g a run)) (sym asked.1) (each g shown asked.0 asked.1)
 
     pub of_turn : Q (run_step traced steps fsdi (length before.works) run)
     of_turn = subst (λ t. Q (takes_turn traced steps fsdi t run)) (sym run_turn) (by_going (run.lanes lane) refl)
 
   -- the lanes after it
-  module _ (after : ReportState P) (g : Going) (ask : Asked)
+  module _ (after : ReportState P) (g : Going) (ask : Ask)
       (wrote : TurnWrote settings traced steps fsdi lane
       (record { held = lane_of before.lanes lane; work = work_of before.works lane; probe = before.probe; written = before.written })
       (record { held = lane_of after.lanes lane; work = work_of after.works lane; probe = after.probe; written = after.written }) g ask)
@@ -117,14 +117,14 @@ module _ {P : Type 0} (settings : Settings) (traced : Bool) (fsdi lane : ℕ) (b
     }
 
   -- a first part of its piece
-  pub part_after : (g : Going) (ask : Asked) (written : Option (List ℕ))
+  pub part_after : (g : Going) (ask : Ask) (written : Option (List ℕ))
       → AppendsPrefix before.written written (turn_piece traced fsdi lane g ask (heard_by steps before.probe lane g ask).1).text
       → AppendsPrefix start written (asks traced steps fsdi lane order g (Some ask) run).text
   part_after g ask written part =
       prefix_more start before.written written run.text _ (wrote_since start before.written run.text shows.text)
       (subst (λ p. AppendsPrefix before.written written (turn_piece traced fsdi lane g ask (heard_by steps p lane g ask).1).text) shows.probe part)
 
-module _ {P : Type 0} (answers : ProbeAnswers P) (settings : Settings) (traced : Bool) (fsdi lane : ℕ) (before : ReportState P) (order : Order)
+module _ {P : Type 0} (answers : ProbeAnswers P) (settings : Config) (traced : Bool) (fsdi lane : ℕ) (before : ReportState P) (order : Order)
     (turn : next_of before.lanes ≡ Some (lane, order)) (next : next_lane before.lanes ≡ Some lane) (fits : Fits before.lanes before.works)
     (work : LaneWork) (work_is : work ≡ work_of before.works lane) where
   -- what the lane's turn came to is the run's next exchange

@@ -1,11 +1,11 @@
 -- What a transaction comes to when it is begun (this project's own).
 use Rattle.std.specs.Prelude.{◌≡◌, ℕ, Bool, List, [], ◌++◌, if◌then◌else◌, Option, Some, None, is_some}
-use Rattle.ep_base.specs.Configuration.{Settings}
-use Rattle.ep_base.specs.Hearing.{Asked}
-use Rattle.ep_base.specs.Kernel.{Scripted, scripted}
-use Rattle.ep_base.specs.WrittenText.{event_lines, log_lines}
-use Rattle.law_lane.specs.Standing.{asked_by, events_of, started}
-use Rattle.law_turns.specs.LaneText.{Job}
+use Rattle.ep_rules.specs.EntryPoint.Configuration.{Config}
+use Rattle.ep_base.specs.Air.Heard.{Ask}
+use Rattle.ep_rules.specs.EntryPoint.Kernel.{Scripted, scripted}
+use Rattle.ep_claim.specs.Text.WrittenText.{event_lines, log_lines}
+use Rattle.ep_claim.specs.Lanes.Standing.{asked_by, events_of, started}
+use Rattle.ep_claim.specs.Lanes.LaneText.{Job}
 use Rattle.ep_lanes.specs.Lanes.{LaneHeld}
 use Rattle.ep_lanes.specs.Turns.{Stands}
 use Rattle.ep_lanes.specs.declared.exchange.Turned.{Turned}
@@ -19,17 +19,17 @@ closing_text Goes lane txn log = []
 closing_text (Ended end) lane txn log = log_lines lane txn log
 
 -- What is asked first in a transaction, if anything is (this project's own).
-abbrev pub asked_first : ℕ → Job → Option Asked
+abbrev pub asked_first : ℕ → Job → Option Ask
 asked_first fsdi j = asked_by fsdi (started j.talk).doing
 
 -- What is written when a transaction is begun: its events so far, and its log where nothing is asked (this project's own).
-abbrev pub begun_text : (lane txn : ℕ) → Job → Option Asked → List ℕ
+abbrev pub begun_text : (lane txn : ℕ) → Job → Option Ask → List ℕ
 begun_text lane txn j (Some ask) = event_lines lane txn (events_of j.talk (started j.talk))
 begun_text lane txn j None = event_lines lane txn (events_of j.talk (started j.talk)) ++ log_lines lane txn j.field.log
 
 -- A transaction of a lane was begun: where something is asked the lane holds its field, and else the lane is without a transaction again (this
 -- project's own).
-pub record BegunLane (settings : Settings) (fsdi : ℕ) (w : Work) (held : LaneHeld Scripted) (before after : LaneWork) (asks : Bool) : Type 0 where
+pub record BegunLane (settings : Config) (fsdi : ℕ) (w : Work) (held : LaneHeld Scripted) (before after : LaneWork) (asks : Bool) : Type 0 where
   pub asked : asks ≡ is_some (asked_first fsdi (job_of settings w))
   pub opened : is_some held.transaction ≡ asks
   pub stands : Stands scripted held (talk_in settings w) fsdi (started (talk_in settings w))

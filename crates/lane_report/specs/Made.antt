@@ -1,16 +1,16 @@
 -- What all turns come to (this project's own).
 use Rattle.std.specs.Prelude.{◌≡◌, ℕ, Bool, List, length, Option}
-use Rattle.ep_base.specs.Configuration.{Settings}
-use Rattle.ep_base.specs.Io.{AppendsPrefix}
-use Rattle.law_turns.specs.Ending.{HasEnded}
+use Rattle.ep_rules.specs.EntryPoint.Configuration.{Config}
+use Rattle.ep_base.specs.Streams.Io.{AppendsPrefix}
+use Rattle.ep_claim.specs.Lanes.Ending.{HasEnded}
 use Rattle.law_turns.specs.Growing.{AreShort}
-use Rattle.law_turns.specs.LaneText.{Job}
-use Rattle.law_turns.specs.WholeRun.{ProbeSteps, opened_run, run_after}
+use Rattle.ep_claim.specs.Lanes.LaneText.{Job}
+use Rattle.ep_claim.specs.Lanes.WholeRun.{ProbeSteps, opened_run, run_after}
 use Rattle.ep_lanes.specs.Probing.{ProbeAnswers}
 use Rattle.lane_report.specs.Shows.{ReportState, Shows, Tells}
 
 -- A run of so many short lanes that were just opened, which is shown, with the steps that the probe has (this project's own).
-pub record ShownRun {P : Type 0} (answers : ProbeAnswers P) (settings : Settings) (fsdi : ℕ) (before : ReportState P) : Type 0 where
+pub record ShownRun {P : Type 0} (answers : ProbeAnswers P) (settings : Config) (fsdi : ℕ) (before : ReportState P) : Type 0 where
   pub steps : ProbeSteps P
   pub tells : Tells answers steps
   pub start : Option (List ℕ)
@@ -22,25 +22,25 @@ pub record ShownRun {P : Type 0} (answers : ProbeAnswers P) (settings : Settings
   pub shows : Shows settings fsdi start before (opened_run fsdi turns probe lanes)
 
 -- Its end is shown: no lane has an exchange left (this project's own).
-pub record EndShown {P : Type 0} (answers : ProbeAnswers P) (settings : Settings) (traced : Bool) (fsdi : ℕ) (before after : ReportState P)
+pub record EndShown {P : Type 0} (answers : ProbeAnswers P) (settings : Config) (traced : Bool) (fsdi : ℕ) (before after : ReportState P)
     (r : ShownRun answers settings fsdi before) : Type 0 where
   pub exchanges : ℕ
   pub over : HasEnded (length r.lanes) (run_after traced r.steps fsdi r.turns r.probe r.lanes exchanges)
   pub shows : Shows settings fsdi r.start after (run_after traced r.steps fsdi r.turns r.probe r.lanes exchanges)
 
 -- A first part of the text at its end was written (this project's own).
-pub record EndCut {P : Type 0} (answers : ProbeAnswers P) (settings : Settings) (traced : Bool) (fsdi : ℕ) (before : ReportState P)
+pub record EndCut {P : Type 0} (answers : ProbeAnswers P) (settings : Config) (traced : Bool) (fsdi : ℕ) (before : ReportState P)
     (written : Option (List ℕ)) (r : ShownRun answers settings fsdi before) : Type 0 where
   pub exchanges : ℕ
   pub over : HasEnded (length r.lanes) (run_after traced r.steps fsdi r.turns r.probe r.lanes exchanges)
   pub part : AppendsPrefix r.start written (run_after traced r.steps fsdi r.turns r.probe r.lanes exchanges).text
 
 -- All turns were made: what showed a run whose lanes were just opened shows its end (this project's own).
-abbrev pub TurnsMade : {P : Type 0} → ProbeAnswers P → Settings → Bool → ℕ → (before after : ReportState P) → Type 0
+abbrev pub TurnsMade : {P : Type 0} → ProbeAnswers P → Config → Bool → ℕ → (before after : ReportState P) → Type 0
 TurnsMade answers settings traced fsdi before after =
     (r : ShownRun answers settings fsdi before) → EndShown answers settings traced fsdi before after r
 
 -- They were cut short: a first part of the text at the end of such a run was written (this project's own).
-abbrev pub TurnsCut : {P : Type 0} → ProbeAnswers P → Settings → Bool → ℕ → (before : ReportState P) → Option (List ℕ) → Type 0
+abbrev pub TurnsCut : {P : Type 0} → ProbeAnswers P → Config → Bool → ℕ → (before : ReportState P) → Option (List ℕ) → Type 0
 TurnsCut answers settings traced fsdi before written =
     (r : ShownRun answers settings fsdi before) → EndCut answers settings traced fsdi before written r

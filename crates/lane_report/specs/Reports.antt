@@ -1,13 +1,13 @@
 -- The report of several lanes as they run (this project's own).
 use Rattle.std.specs.Prelude.{◌≡◌, ℕ, ◌≤◌, All, Bool, List, length, Option, None}
 use Rattle.std.specs.Io.KnownBytes.{Appends}
-use Rattle.ep_base.specs.Configuration.{Settings, count_of}
-use Rattle.ep_base.specs.Io.{AppendsPrefix}
-use Rattle.ep_base.specs.Kernel.{Script}
-use Rattle.ep_base.specs.KernelCommands.{ScriptedSends}
-use Rattle.law_turns.specs.Ending.{HasEnded}
-use Rattle.law_turns.specs.LaneText.{Job}
-use Rattle.law_turns.specs.WholeRun.{ProbeSteps, opened_run, run_after}
+use Rattle.ep_rules.specs.EntryPoint.Configuration.{Config, count_of}
+use Rattle.ep_base.specs.Streams.Io.{AppendsPrefix}
+use Rattle.ep_rules.specs.EntryPoint.Kernel.{Script}
+use Rattle.ep_rules.specs.EntryPoint.KernelCommands.{ScriptedSends}
+use Rattle.ep_claim.specs.Lanes.Ending.{HasEnded}
+use Rattle.ep_claim.specs.Lanes.LaneText.{Job}
+use Rattle.ep_claim.specs.Lanes.WholeRun.{ProbeSteps, opened_run, run_after}
 use Rattle.ep_lanes.specs.Probing.{ProbeAnswers}
 use Rattle.scenario.specs.Scene.{Work}
 use Rattle.lane_report.specs.Shows.{ReportState, Shows, Tells}
@@ -23,7 +23,7 @@ pub record HasRun {P : Type 0} (traced : Bool) (steps : ProbeSteps P) (fsdi : �
 
 -- A transaction whose kernels run no script yet and send commands alone: at most four scripts, of at most 64 steps together, and at most 16
 -- Combinations of its type (this project's profile).
-pub record IsFew (settings : Settings) (w : Work) : Type 0 where
+pub record IsFew (settings : Config) (w : Work) : Type 0 where
   pub sends : ScriptedSends w.scripts
   pub rests : w.scripts.running ≡ None
   pub scripts : length w.scripts.scripts ≤ 4
@@ -31,25 +31,25 @@ pub record IsFew (settings : Settings) (w : Work) : Type 0 where
   pub combinations : count_of w.txn_type settings.list ≤ 16
 
 -- A lane before its first transaction, of which there are at most 64, each of them so (this project's profile).
-pub record IsNewWork (settings : Settings) (work : LaneWork) : Type 0 where
+pub record IsNewWork (settings : Config) (work : LaneWork) : Type 0 where
   pub none : work.field ≡ None
   pub first : work.txn ≡ 0
   pub short : length work.left ≤ 64
   pub few : All (IsFew settings) work.left
 
 -- The lanes were opened: what was there shows a run whose lanes were just opened (this project's own).
-abbrev pub LanesOpened : {P : Type 0} → Settings → ℕ → List ℕ → (before after : ReportState P) → Type 0
+abbrev pub LanesOpened : {P : Type 0} → Config → ℕ → List ℕ → (before after : ReportState P) → Type 0
 LanesOpened settings fsdi turns before after =
     Shows settings fsdi before.written after (opened_run fsdi turns before.probe (all_jobs settings before.works))
 
 -- The report was written: where the probe has these steps, the run has a text, which was appended (this project's own).
-abbrev pub Reports : {P : Type 0} → ProbeAnswers P → Settings → Bool → ℕ → List ℕ → (before after : ReportState P) → Type 0
+abbrev pub Reports : {P : Type 0} → ProbeAnswers P → Config → Bool → ℕ → List ℕ → (before after : ReportState P) → Type 0
 Reports {P} answers settings traced fsdi turns before after =
     (steps : ProbeSteps P) → Tells answers steps → (text : List ℕ)
     × HasRun traced steps fsdi turns before.probe (all_jobs settings before.works) text after.probe × Appends before.written after.written text
 
 -- It was cut short: a first part of that text was appended (this project's own).
-abbrev pub ReportsPart : {P : Type 0} → ProbeAnswers P → Settings → Bool → ℕ → List ℕ → (before : ReportState P) → Option (List ℕ)
+abbrev pub ReportsPart : {P : Type 0} → ProbeAnswers P → Config → Bool → ℕ → List ℕ → (before : ReportState P) → Option (List ℕ)
     → Type 0
 ReportsPart {P} answers settings traced fsdi turns before written =
     (steps : ProbeSteps P) → Tells answers steps → (text : List ℕ) × (q : P)

@@ -1,16 +1,16 @@
 -- When lanes and what they have to do show a run (this project's own).
 use Rattle.std.specs.Prelude.{◌≡◌, ℕ, true, List, length, Option, Some, None, is_some}
-use Rattle.ep_base.specs.Configuration.{Settings}
-use Rattle.ep_base.specs.Hearing.{Asked, Hearing}
-use Rattle.ep_base.specs.Kernel.{Scripted, scripted}
+use Rattle.ep_rules.specs.EntryPoint.Configuration.{Config}
+use Rattle.ep_base.specs.Air.Heard.{Ask, Heard}
+use Rattle.ep_rules.specs.EntryPoint.Kernel.{Scripted, scripted}
 use Rattle.ep_lanes.specs.Lanes.{LaneHeld, Held, no_lane, lane_of, lanes_of, count_of}
 use Rattle.ep_lanes.specs.Probing.{ProbeAnswers}
 use Rattle.ep_lanes.specs.Turns.{Stands}
 use Rattle.ep_lanes.specs.declared.holding.Lanes.{Lanes}
 use Rattle.kernel_port.specs.Scripts.{scripted_of}
 use Rattle.kernel_port.specs.declared.scripts.Scripts.{Scripts}
-use Rattle.law_turns.specs.LaneText.{Going}
-use Rattle.law_turns.specs.WholeRun.{ProbeSteps, Run}
+use Rattle.ep_claim.specs.Lanes.LaneText.{Going}
+use Rattle.ep_claim.specs.Lanes.WholeRun.{ProbeSteps, Run}
 use Rattle.lane_report.specs.Works.{LaneWork, work_of, jobs_of}
 use Rattle.lane_report.specs.Written.{with_text}
 
@@ -20,7 +20,7 @@ held_of lanes = lanes_of scripted_of (λ s. s.active) (λ s. s.fresh) lanes
 
 -- A lane shows one that has an exchange left: its open transaction stands where that one stands, over the field that was left so, and its number and
 -- the transactions after it are the same (this project's own).
-pub record ShowsGoing (settings : Settings) (fsdi : ℕ) (held : LaneHeld Scripted) (work : LaneWork) (g : Going) : Type 0 where
+pub record ShowsGoing (settings : Config) (fsdi : ℕ) (held : LaneHeld Scripted) (work : LaneWork) (g : Going) : Type 0 where
   pub live : held.live ≡ true
   pub opened : is_some held.transaction ≡ true
   pub stands : Stands scripted held g.talk fsdi g.lane.standing
@@ -29,7 +29,7 @@ pub record ShowsGoing (settings : Settings) (fsdi : ℕ) (held : LaneHeld Script
   pub left : jobs_of settings work ≡ g.left
 
 -- A lane shows one of a run; without an exchange left it has ended (this project's own).
-abbrev pub ShowsLane : Settings → ℕ → LaneHeld Scripted → LaneWork → Option Going → Type 0
+abbrev pub ShowsLane : Config → ℕ → LaneHeld Scripted → LaneWork → Option Going → Type 0
 ShowsLane settings fsdi held work None = held ≡ no_lane
 ShowsLane settings fsdi held work (Some g) = ShowsGoing settings fsdi held work g
 
@@ -52,7 +52,7 @@ pub record ReportState (P : Type 0) : Type 0 where
 
 -- They show a run whose text was written since this start: each lane shows the run's lane with its number, and all else is the run's (this project's
 -- own).
-pub record Shows {P : Type 0} (settings : Settings) (fsdi : ℕ) (start : Option (List ℕ)) (s : ReportState P) (run : Run P)
+pub record Shows {P : Type 0} (settings : Config) (fsdi : ℕ) (start : Option (List ℕ)) (s : ReportState P) (run : Run P)
     : Type 0 where
   pub each : (lane : ℕ) → ShowsLane settings fsdi (lane_of s.lanes lane) (work_of s.works lane) (run.lanes lane)
   pub order : s.lanes.order ≡ run.order
@@ -62,4 +62,4 @@ pub record Shows {P : Type 0} (settings : Settings) (fsdi : ℕ) (start : Option
 -- The probe's answers are those of these steps (this project's own).
 abbrev pub Tells : {P : Type 0} → ProbeAnswers P → ProbeSteps P → Type 0
 Tells {P} answers steps =
-    (p : P) (lane : ℕ) (ask : Asked) (given heard : Hearing) (q : P) → answers.hears p lane ask given heard q → steps.hear p lane ask given ≡ (q, heard)
+    (p : P) (lane : ℕ) (ask : Ask) (given heard : Heard) (q : P) → answers.hears p lane ask given heard q → steps.hear p lane ask given ≡ (q, heard)

@@ -1,17 +1,17 @@
 -- What a turn of a lane comes to (this project's own).
 use Rattle.std.specs.Prelude.{◌≡◌, ℕ, Bool, List, length, Option, Some}
 use Rattle.std.specs.Io.KnownBytes.{Appends}
-use Rattle.ep_base.specs.Configuration.{Settings}
-use Rattle.ep_base.specs.Field.{Field, field}
-use Rattle.ep_base.specs.Hearing.{Asked, Hearing}
-use Rattle.ep_base.specs.Io.{AppendsPrefix}
-use Rattle.ep_base.specs.Kernel.{Scripted, scripted}
-use Rattle.ep_base.specs.Medium.{told}
-use Rattle.ep_base.specs.Said.{Said}
-use Rattle.law_lane.specs.Exchanges.{Lane, field_answers, or_silence}
-use Rattle.law_lane.specs.Standing.{asked_by}
-use Rattle.law_turns.specs.LaneText.{Going, Piece, after_text, goes_on, heard_lane, piece_of, trace_part}
-use Rattle.law_turns.specs.WholeRun.{ProbeSteps, Run, run_step}
+use Rattle.ep_rules.specs.EntryPoint.Configuration.{Config}
+use Rattle.ep_base.specs.Cards.Field.{Field, field}
+use Rattle.ep_base.specs.Air.Heard.{Ask, Heard}
+use Rattle.ep_base.specs.Streams.Io.{AppendsPrefix}
+use Rattle.ep_rules.specs.EntryPoint.Kernel.{Scripted, scripted}
+use Rattle.ep_base.specs.Air.Medium.{told}
+use Rattle.ep_rules.specs.EntryPoint.Event.{Said}
+use Rattle.ep_claim.specs.Lanes.Exchanges.{Lane, field_answers, or_silence}
+use Rattle.ep_claim.specs.Lanes.Standing.{asked_by}
+use Rattle.ep_claim.specs.Lanes.LaneText.{Going, Piece, after_text, goes_on, heard_lane, piece_of, trace_part}
+use Rattle.ep_claim.specs.Lanes.WholeRun.{ProbeSteps, Run, run_step}
 use Rattle.ep_lanes.specs.Lanes.{Held, LaneHeld}
 use Rattle.ep_lanes.specs.Probing.{ProbeAnswers}
 use Rattle.ep_lanes.specs.Turns as turns
@@ -28,7 +28,7 @@ pub record HeardTurn {P : Type 0} (answers : ProbeAnswers P) (lane : ℕ) (befor
 
 -- A lane after an exchange of the transaction that goes on so: it stands where the transaction stands, over the field that was left so, and says
 -- what follows (this project's own).
-pub record IsAfter (settings : Settings) (fsdi : ℕ) (held : LaneHeld Scripted) (work : LaneWork) (turned : Turned) (g : Going) (l : Lane) : Type 0 where
+pub record IsAfter (settings : Config) (fsdi : ℕ) (held : LaneHeld Scripted) (work : LaneWork) (turned : Turned) (g : Going) (l : Lane) : Type 0 where
   pub stands : turns.Stands scripted held g.talk fsdi l.standing
   pub tells : turns.Tells turned fsdi g.talk l.standing
   pub field : work.field ≡ Some l.field
@@ -36,32 +36,32 @@ pub record IsAfter (settings : Settings) (fsdi : ℕ) (held : LaneHeld Scripted)
   pub left : jobs_of settings work ≡ g.left
 
 -- A lane wrote a piece, and shows the lane after it (this project's own).
-pub record Wrote (settings : Settings) (fsdi : ℕ) (held : LaneHeld Scripted) (work : LaneWork) (before after : Option (List ℕ)) (piece : Piece)
+pub record Wrote (settings : Config) (fsdi : ℕ) (held : LaneHeld Scripted) (work : LaneWork) (before after : Option (List ℕ)) (piece : Piece)
     : Type 0 where
   pub text : Appends before after piece.text
   pub shows : ShowsLane settings fsdi held work piece.going
 
 -- After an exchange of a transaction, what follows was written (this project's own).
-abbrev pub GoesOn : Settings → (fsdi lane : ℕ) → (held : LaneHeld Scripted) (work : LaneWork) → Turned
+abbrev pub GoesOn : Config → (fsdi lane : ℕ) → (held : LaneHeld Scripted) (work : LaneWork) → Turned
     → (held_then : LaneHeld Scripted) (work_then : LaneWork) → (before after : Option (List ℕ)) → Type 0
 GoesOn settings fsdi lane held work turned held_then work_then before after =
     (g : Going) (l : Lane) → IsAfter settings fsdi held work turned g l →
     Wrote settings fsdi held_then work_then before after (goes_on fsdi lane g l (asked_by fsdi l.standing.doing))
 
 -- A first part of it was written (this project's own).
-abbrev pub GoesOnPart : Settings → (fsdi lane : ℕ) → (held : LaneHeld Scripted) (work : LaneWork) → Turned
+abbrev pub GoesOnPart : Config → (fsdi lane : ℕ) → (held : LaneHeld Scripted) (work : LaneWork) → Turned
     → (before after : Option (List ℕ)) → Type 0
 GoesOnPart settings fsdi lane held work turned before after =
     (g : Going) (l : Lane) → IsAfter settings fsdi held work turned g l →
     AppendsPrefix before after (goes_on fsdi lane g l (asked_by fsdi l.standing.doing)).text
 
 -- What a lane writes with an exchange in which this was asked, with its trace line, where a trace is wanted (this project's own).
-abbrev pub turn_piece : Bool → (fsdi lane : ℕ) → Going → Asked → Hearing → Piece
+abbrev pub turn_piece : Bool → (fsdi lane : ℕ) → Going → Ask → Heard → Piece
 turn_piece traced fsdi lane g ask heard =
     after_text (trace_part traced lane ask heard) (piece_of fsdi lane g (heard_lane fsdi g.talk ask heard (field_answers ask g.lane.field).1 g.lane))
 
 -- What a probe of these steps makes of an exchange of a lane in which this is asked: its next state, and what the reader hears (this project's own).
-abbrev pub heard_by : {P : Type 0} → ProbeSteps P → P → (lane : ℕ) → Going → Asked → P × Hearing
+abbrev pub heard_by : {P : Type 0} → ProbeSteps P → P → (lane : ℕ) → Going → Ask → P × Heard
 heard_by steps p lane g ask = steps.hear p lane ask (or_silence (field_answers ask g.lane.field).0)
 
 -- A lane with its work, the probe's state, and the bytes written, where they are told (this project's own).
@@ -72,33 +72,33 @@ pub record LaneState (P : Type 0) : Type 0 where
   pub written : Option (List ℕ)
 
 -- A lane wrote the piece of its turn, and the probe went on (this project's own).
-pub record TurnWrote {P : Type 0} (settings : Settings) (traced : Bool) (steps : ProbeSteps P) (fsdi lane : ℕ) (before after : LaneState P)
-    (g : Going) (ask : Asked) : Type 0 where
+pub record TurnWrote {P : Type 0} (settings : Config) (traced : Bool) (steps : ProbeSteps P) (fsdi lane : ℕ) (before after : LaneState P)
+    (g : Going) (ask : Ask) : Type 0 where
   pub wrote : Wrote settings fsdi after.held after.work before.written after.written
       (turn_piece traced fsdi lane g ask (heard_by steps before.probe lane g ask).1)
   pub probe : after.probe ≡ (heard_by steps before.probe lane g ask).0
 
 -- So it is for whatever the lane showed, where the probe has these steps (this project's own).
-abbrev pub LaneTurned : {P : Type 0} → ProbeAnswers P → Settings → Bool → (fsdi lane : ℕ) → (before after : LaneState P) → Type 0
+abbrev pub LaneTurned : {P : Type 0} → ProbeAnswers P → Config → Bool → (fsdi lane : ℕ) → (before after : LaneState P) → Type 0
 LaneTurned {P} answers settings traced fsdi lane before after =
     (steps : ProbeSteps P) → Tells answers steps → (g : Going) → ShowsGoing settings fsdi before.held before.work g →
-    (ask : Asked) → asked_by fsdi g.lane.standing.doing ≡ Some ask → TurnWrote settings traced steps fsdi lane before after g ask
+    (ask : Ask) → asked_by fsdi g.lane.standing.doing ≡ Some ask → TurnWrote settings traced steps fsdi lane before after g ask
 
 -- A first part of that piece was written (this project's own).
-abbrev pub LaneCut : {P : Type 0} → ProbeAnswers P → Settings → Bool → (fsdi lane : ℕ) → (before : LaneState P) → Option (List ℕ) → Type 0
+abbrev pub LaneCut : {P : Type 0} → ProbeAnswers P → Config → Bool → (fsdi lane : ℕ) → (before : LaneState P) → Option (List ℕ) → Type 0
 LaneCut {P} answers settings traced fsdi lane before written =
     (steps : ProbeSteps P) → Tells answers steps → (g : Going) → ShowsGoing settings fsdi before.held before.work g →
-    (ask : Asked) → asked_by fsdi g.lane.standing.doing ≡ Some ask →
+    (ask : Ask) → asked_by fsdi g.lane.standing.doing ≡ Some ask →
     AppendsPrefix before.written written (turn_piece traced fsdi lane g ask (heard_by steps before.probe lane g ask).1).text
 
 -- A turn was taken: where the probe has these steps, what showed a run shows it after its next exchange (this project's own).
-abbrev pub TurnTaken : {P : Type 0} → ProbeAnswers P → Settings → Bool → ℕ → (before after : ReportState P) → Type 0
+abbrev pub TurnTaken : {P : Type 0} → ProbeAnswers P → Config → Bool → ℕ → (before after : ReportState P) → Type 0
 TurnTaken {P} answers settings traced fsdi before after =
     (steps : ProbeSteps P) → Tells answers steps → (start : Option (List ℕ)) (run : Run P) → Shows settings fsdi start before run →
     Shows settings fsdi start after (run_step traced steps fsdi (length before.works) run)
 
 -- A turn was cut short: a first part of the run's text after its next exchange was written (this project's own).
-abbrev pub TurnCut : {P : Type 0} → ProbeAnswers P → Settings → Bool → ℕ → (before : ReportState P) → Option (List ℕ) → Type 0
+abbrev pub TurnCut : {P : Type 0} → ProbeAnswers P → Config → Bool → ℕ → (before : ReportState P) → Option (List ℕ) → Type 0
 TurnCut {P} answers settings traced fsdi before written =
     (steps : ProbeSteps P) → Tells answers steps → (start : Option (List ℕ)) (run : Run P) → Shows settings fsdi start before run →
     AppendsPrefix start written (run_step traced steps fsdi (length before.works) run).text

@@ -1,24 +1,24 @@
 -- What a lane has to do still (this project's own).
 use Rattle.std.specs.Prelude.{ℕ, ◌-◌, ◌==◌, if◌then◌else◌, List, [], map, slice_get, unwrap_or, Option, None}
-use Rattle.ep_base.specs.Configuration.{Settings}
-use Rattle.ep_base.specs.Field.{Field}
-use Rattle.ep_base.specs.PreProcessing.{prepared}
-use Rattle.ep_base.specs.Talk.{Talk}
+use Rattle.ep_rules.specs.EntryPoint.Configuration.{Config}
+use Rattle.ep_base.specs.Cards.Field.{Field}
+use Rattle.ep_rules.specs.EntryPoint.PreProcessing.{prepared}
+use Rattle.ep_rules.specs.EntryPoint.Talk.{Talk}
 use Rattle.entry_session.specs.Perfect.{talk_of}
-use Rattle.law_turns.specs.LaneText.{Job}
+use Rattle.ep_claim.specs.Lanes.LaneText.{Job}
 use Rattle.pre_processing.specs.Preparation.{Preparation}
 use Rattle.scenario.specs.Scene.{Work}
 
 -- What Start A gives a transaction (EMV Book B).
-abbrev pub preparation : Settings → Work → Preparation
+abbrev pub preparation : Config → Work → Preparation
 preparation settings w = record { txn_type = w.txn_type; amount = w.amount; list = prepared settings w.txn_type w.amount }
 
 -- What a transaction says and asks, with its kernels (EMV Book B).
-abbrev pub talk_in : Settings → Work → Talk
+abbrev pub talk_in : Config → Work → Talk
 talk_in settings w = talk_of (preparation settings w) w.scripts
 
 -- A transaction before its first exchange, as a run of lanes takes it (this project's own).
-abbrev pub job_of : Settings → Work → Job
+abbrev pub job_of : Config → Work → Job
 job_of settings w = record { talk = talk_in settings w; field = w.field }
 
 -- A lane's transactions to come, the field of its open one, if one is open, and the number of the last one that was begun (this project's own).
@@ -40,9 +40,9 @@ abbrev pub work_of : List LaneWork → (lane : ℕ) → LaneWork
 work_of works lane = if lane == 0 then no_work else unwrap_or (slice_get works (lane - 1)) no_work
 
 -- Its transactions to come, as a run of lanes takes them (this project's own).
-abbrev pub jobs_of : Settings → LaneWork → List Job
+abbrev pub jobs_of : Config → LaneWork → List Job
 jobs_of settings work = map (job_of settings) work.left
 
 -- The same of all lanes (this project's own).
-abbrev pub all_jobs : Settings → List LaneWork → List (List Job)
+abbrev pub all_jobs : Config → List LaneWork → List (List Job)
 all_jobs settings works = map (jobs_of settings) works

@@ -1,10 +1,10 @@
 //! How a lane's next transaction is opened.
 ghost use Rattle.std.specs.Prelude.{◌≡◌, ◌≢◌, ◌≤◌, ◌+◌, ℕ, true, false, None, IfOk, OnOk, OnErr, IsErr, is_some};
 ghost use Rattle.std.specs.Io.KnownBytes.{Appends};
-ghost use Rattle.ep_base.specs.Causes.{HasCause};
-ghost use Rattle.ep_base.specs.Io.{AppendsPrefix};
+ghost use Rattle.ep_base.specs.Streams.Causes.{HasCause};
+ghost use Rattle.ep_base.specs.Streams.Io.{AppendsPrefix};
 ghost use Rattle.ep_lanes.specs.Lanes.{count_of, has_open, is_live, lane_of};
-ghost use Rattle.law_turns.specs.LaneText.{opens};
+ghost use Rattle.ep_claim.specs.Lanes.LaneText.{opens};
 ghost use Rattle.lane_report.specs.Begun.{BegunLane, asked_first, begun_text};
 ghost use Rattle.lane_report.specs.Shows.{FitsLane, ShowsLane, held_of};
 ghost use Rattle.lane_report.specs.Works.{job_of, jobs_of};

@@ -1,9 +1,9 @@
 //! The report of all lanes.
 ghost use Rattle.std.specs.Prelude.{◌≡◌, ◌≤◌, All, length, OnOk, OnErr, IsErr, is_some};
-ghost use Rattle.ep_base.specs.Causes.{HasCause};
-ghost use Rattle.ep_base.specs.Io.{AppendsPrefix};
+ghost use Rattle.ep_base.specs.Streams.Causes.{HasCause};
+ghost use Rattle.ep_base.specs.Streams.Io.{AppendsPrefix};
 ghost use Rattle.ep_lanes.specs.Lanes.{new_lanes};
-ghost use Rattle.law_turns.specs.WholeRun.{opening_text};
+ghost use Rattle.ep_claim.specs.Lanes.WholeRun.{opening_text};
 ghost use Rattle.lane_report.specs.Made.{TurnsCut, TurnsMade};
 ghost use Rattle.lane_report.specs.Reports.{IsNewWork, LanesOpened, Reports, ReportsPart};
 ghost use Rattle.lane_report.specs.Shows.{held_of, Fits};

@@ -1,7 +1,7 @@
 //! Two lanes over real fields: what no clause says is the whole text of a run, that memory can be had, and where a sink that
 //! fails leaves the report.
 ghost use Rattle.std.specs.Prelude.{◌≡◌, ◌≤◌, All, IfOk, length, vec_len};
-ghost use Rattle.ep_base.specs.Configuration.{IsCombination};
+ghost use Rattle.ep_rules.specs.EntryPoint.Configuration.{IsCombination};
 ghost use Rattle.ep_lanes.specs.Lanes.{new_lanes};
 ghost use Rattle.rf_field.specs.Plans.{PlanFits};
 ghost use Rattle.lane_report.specs.Reports.{IsFew, IsNewWork};

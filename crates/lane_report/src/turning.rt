@@ -2,13 +2,13 @@
 ghost use Rattle.std.specs.Prelude.{◌≡◌, ◌≢◌, ◌≤◌, ◌+◌, ◌++◌, ℕ, true, false, Some, None, OnOk, OnErr, IsErr, is_some, length};
 ghost use Rattle.std.specs.Io.KnownBytes.{Appends};
 ghost use Rattle.arrayvec.specs.ArrayVec.{array_vec_len};
-ghost use Rattle.ep_base.specs.Causes.{HasCause};
-ghost use Rattle.ep_base.specs.Field as plain;
-ghost use Rattle.ep_base.specs.Io.{AppendsPrefix};
-ghost use Rattle.ep_base.specs.WrittenText.{log_lines};
+ghost use Rattle.ep_base.specs.Streams.Causes.{HasCause};
+ghost use Rattle.ep_base.specs.Cards.Field as plain;
+ghost use Rattle.ep_base.specs.Streams.Io.{AppendsPrefix};
+ghost use Rattle.ep_claim.specs.Text.WrittenText.{log_lines};
 ghost use Rattle.ep_lanes.specs.Lanes.{count_of, has_open, is_live, lane_of, next_lane, next_of};
 ghost use Rattle.ep_lanes.specs.Saying.{is_goes};
-ghost use Rattle.law_turns.specs.LaneText.{after_text, opens};
+ghost use Rattle.ep_claim.specs.Lanes.LaneText.{after_text, opens};
 ghost use Rattle.session_phases.specs.Told.{told_by};
 ghost use Rattle.lane_report.specs.Shows.{Fits, FitsLane, held_of};
 ghost use Rattle.lane_report.specs.Turned.{GoesOn, GoesOnPart, HeardTurn, LaneCut, LaneTurned, TurnCut, TurnTaken, Wrote};

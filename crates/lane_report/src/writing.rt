@@ -1,10 +1,10 @@
 //! The lines of an exchange, of events and of a log, one after another.
 ghost use Rattle.std.specs.Prelude.{◌≡◌, ◌++◌, OnOk, OnErr, IsErr, is_some};
 ghost use Rattle.std.specs.Io.KnownBytes.{Appends};
-ghost use Rattle.ep_base.specs.Causes.{HasCause};
-ghost use Rattle.ep_base.specs.Io.{AppendsPrefix};
-ghost use Rattle.ep_base.specs.WrittenText.{event_lines, log_lines};
-ghost use Rattle.law_turns.specs.LaneText.{trace_part};
+ghost use Rattle.ep_base.specs.Streams.Causes.{HasCause};
+ghost use Rattle.ep_base.specs.Streams.Io.{AppendsPrefix};
+ghost use Rattle.ep_claim.specs.Text.WrittenText.{event_lines, log_lines};
+ghost use Rattle.ep_claim.specs.Lanes.LaneText.{trace_part};
 ghost use Rattle.rf_field.specs.Fields.{field_of};
 ghost use Rattle.rf_frame.specs.Meaning.{heard_of};
 ghost use Rattle.session_phases.specs.Told.{told_by};

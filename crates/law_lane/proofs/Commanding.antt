@@ -1,23 +1,23 @@
 -- A command over a field is heard to its end, in a bounded number of exchanges.
 use Rattle.std.proofs.Common.{◌≡◌, ◌⊎◌, inl, inr, ℕ, zero, suc, ◌*◌, ◌≤◌, List, [], ◌∷◌, length, refl, sym, ap, subst, arith, Some}
-use Rattle.ep_base.specs.Hearing.{Hearing, wave_of_kind}
-use Rattle.ep_base.specs.Frame.{sealed}
-use Rattle.ep_base.specs.Spelling.{spelled}
-use Rattle.ep_base.specs.Block.{Block}
-use Rattle.ep_base.specs.Air.{next_fate}
-use Rattle.ep_base.specs.Wire.{comes_back}
-use Rattle.ep_base.specs.Medium.{told}
-use Rattle.ep_base.specs.ReaderEnd.{Reader, Turn, Asks, Gives, Spends, Breaks, asked, begin}
-use Rattle.ep_base.specs.LinkFrames.{LinkSetting}
-use Rattle.ep_base.specs.Carry.{SendsBlock, turn_on, GoesOn, Follows}
-use Rattle.ep_base.specs.Field.{Field, field, field_send, field_hears, joined}
+use Rattle.ep_base.specs.Air.Heard.{Heard, wave_of_kind}
+use Rattle.ep_base.specs.Air.Frame.{sealed}
+use Rattle.ep_base.specs.Link.Spelling.{spelled}
+use Rattle.ep_base.specs.Link.Block.{Block}
+use Rattle.ep_base.specs.Air.Fates.{next_fate}
+use Rattle.ep_base.specs.Link.Wire.{comes_back}
+use Rattle.ep_base.specs.Air.Medium.{told}
+use Rattle.ep_base.specs.Link.ReaderEnd.{Reader, Turn, Asks, Gives, Spends, Breaks, asked, begin}
+use Rattle.ep_base.specs.Link.LinkFrames.{LinkSetting}
+use Rattle.ep_base.specs.Link.Carry.{SendsBlock, turn_on, GoesOn, Follows}
+use Rattle.ep_base.specs.Cards.Field.{Field, field, field_send, field_hears, joined}
 use Rattle.law_link.specs.Bounds.{IsEnded}
 use Rattle.law_link.proofs.Bounding.{command_ends}
 use Rattle.law_radio.proofs.Thirds.{read, After, turn_is}
-use Rattle.law_lane.specs.Bounds.{command_most}
+use Rattle.ep_claim.specs.Lanes.Limits.{command_most}
 
 module _ (set : LinkSetting) where
-  abbrev pub heard_of : Block → Field → Hearing
+  abbrev pub heard_of : Block → Field → Heard
   heard_of b f =
       comes_back (next_fate f.air.fates).up (joined (field_hears f (wave_of_kind set.kind) (sealed (wave_of_kind set.kind) (spelled b))).answers)
 
@@ -29,9 +29,9 @@ module _ (set : LinkSetting) where
 
   -- some hearings from here, at most so many, lead to an end, or are as many
   abbrev Partly : ℕ → Reader → Field → Type 0
-  Partly n r f = (hs : List Hearing) × (turn : Turn) × (g : Field) × Follows (told field) set hs r f turn g × (length hs ≤ n) × (IsEnded turn ⊎ (length hs ≡ n))
+  Partly n r f = (hs : List Heard) × (turn : Turn) × (g : Field) × Follows (told field) set hs r f turn g × (length hs ≤ n) × (IsEnded turn ⊎ (length hs ≡ n))
 
-  last_heard : (n : ℕ) (r : Reader) (f g : Field) (h : Hearing) (next : Turn) → SendsBlock (told field) set f (asked r) (Some h) g → turn_on set r h ≡ next
+  last_heard : (n : ℕ) (r : Reader) (f g : Field) (h : Heard) (next : Turn) → SendsBlock (told field) set f (asked r) (Some h) g → turn_on set r h ≡ next
       → GoesOn (λ p v. Follows (told field) set [] p v next g) next [] g next g → IsEnded next → Partly (suc n) r f
   last_heard n r f g h next is e x ended = (
     h ∷ [],
@@ -42,7 +42,7 @@ module _ (set : LinkSetting) where
     inl ended,
   )
 
-  by_turn : (n : ℕ) (r : Reader) (f g : Field) (h : Hearing) → SendsBlock (told field) set f (asked r) (Some h) g → ((q : Reader) → Partly n q g)
+  by_turn : (n : ℕ) (r : Reader) (f g : Field) (h : Heard) → SendsBlock (told field) set f (asked r) (Some h) g → ((q : Reader) → Partly n q g)
       → (next : Turn) → turn_on set r h ≡ next → Partly (suc n) r f
   by_turn n r f g h is more (Asks q) e =
       let x = more q in
@@ -65,14 +65,14 @@ module _ (set : LinkSetting) where
       let g = field_then (asked r) f in
       by_turn n r f g h (sends (asked r) f) (λ q. partly n q g) (turn_on set r h) refl
 
-  read_length : (hs : List Hearing) → length (read (told field) set hs) ≡ length hs
+  read_length : (hs : List Heard) → length (read (told field) set hs) ≡ length hs
   unfolding read
   read_length [] = refl
   read_length (h ∷ hs) = ap suc (read_length hs)
 
   -- a command that was heard to its end
   pub record Ended (r : Reader) (f : Field) : Type 0 where
-    pub hearings : List Hearing
+    pub hearings : List Heard
     pub turn : Turn
     pub after : Field
     pub follows : Follows (told field) set hearings r f turn after

@@ -1,36 +1,36 @@
 -- A transaction over a field comes to an end, and keeps to the perfect run: by recursion on what is left of its talk.
 use Rattle.std.proofs.Common.{◌≡◌, ◌⊎◌, inl, inr, ℕ, ◌+◌, ◌-◌, ◌<◌, ◌≤◌, Bool, true, false, List, [], ◌∷◌, ◌++◌, length, refl, sym, ap, subst, ◌∙◌, append_assoc, append-nil, arith, Option, Some, None}
-use Rattle.ep_base.specs.Hearing.{Activated, Hearing, RoundEnd, Goes}
-use Rattle.ep_base.specs.Round.{Waking}
-use Rattle.ep_base.specs.Block.{Deselect}
-use Rattle.ep_base.specs.Apdu.{is_command}
-use Rattle.ep_base.specs.Said.{Told, Ending}
-use Rattle.ep_base.specs.Talk.{Talk, Over, Say, Poll, Command, Close, Result, Round, Response, Closed, so_far, is_found, IsLegal, ends_of}
-use Rattle.ep_base.specs.CardAnswer.{Image, card_answer}
-use Rattle.ep_base.specs.Medium.{told}
-use Rattle.ep_base.specs.Polling.{PlaysRound}
-use Rattle.ep_base.specs.ReaderEnd.{Reader, Turn, Asks, Gives, Spends, Breaks, begin}
-use Rattle.ep_base.specs.Carry.{Follows}
-use Rattle.ep_base.specs.Field.{Field, field}
-use Rattle.ep_base.specs.Radio.{OpenLink, Radio, Comes}
-use Rattle.ep_base.specs.TransportRun.{HearEnd, Whole, AtLink}
-use Rattle.ep_base.specs.Perfect.{Channel, Perfect, channel, presents, perfect, at_command, gave, executes}
-use Rattle.law_run.specs.Bounds.{AtMost}
+use Rattle.ep_base.specs.Air.Heard.{Activated, Heard, RoundEnd, Goes}
+use Rattle.ep_base.specs.Poll.Round.{Waking}
+use Rattle.ep_base.specs.Link.Block.{Deselect}
+use Rattle.ep_base.specs.Cards.Apdu.{is_command}
+use Rattle.ep_rules.specs.EntryPoint.Event.{Told, Ending}
+use Rattle.ep_rules.specs.EntryPoint.Talk.{Talk, Over, Say, Poll, Command, Close, Result, Round, Response, Closed, so_far, is_found, IsLegal, ends_of}
+use Rattle.ep_base.specs.Cards.CardAnswer.{Image, card_answer}
+use Rattle.ep_base.specs.Air.Medium.{told}
+use Rattle.ep_base.specs.Poll.Polling.{PlaysRound}
+use Rattle.ep_base.specs.Link.ReaderEnd.{Reader, Turn, Asks, Gives, Spends, Breaks, begin}
+use Rattle.ep_base.specs.Link.Carry.{Follows}
+use Rattle.ep_base.specs.Cards.Field.{Field, field}
+use Rattle.ep_base.specs.Poll.Radio.{OpenLink, Radio, Comes}
+use Rattle.ep_rules.specs.EntryPoint.TransportRun.{HearEnd, Whole, AtLink}
+use Rattle.ep_rules.specs.EntryPoint.Perfect.{Channel, Perfect, channel, presents, perfect, at_command, gave, executes}
+use Rattle.ep_rules.specs.EntryPoint.Bounds.{AtMost}
 use Rattle.law_wire.proofs.Limits.{images_keep}
 use Rattle.law_round.specs.Acting.{party_at}
 use Rattle.law_round.proofs.Playing.{always_plays_law}
 use Rattle.law_round.proofs.Linking.{keeps_cards_law}
 use Rattle.law_round.proofs.Lossless.{Passing}
-use Rattle.law_radio.specs.OverRadio.{IsNew, IsCarried, Keeps}
-use Rattle.law_radio.specs.Closings.{ClosesFound}
+use Rattle.ep_claim.specs.Promise.Perfection.{IsNew, IsCarried, Keeps}
+use Rattle.ep_claim.specs.Promise.Closings.{ClosesFound}
 use Rattle.law_radio.proofs.Cards.{have_all}
 use Rattle.law_radio.proofs.Kept.{Fails, keeps, whole_by, Kept, say_kept, poll_kept, close_kept, answer_kept}
 use Rattle.law_link.specs.Bounds.{IsEnded}
-use Rattle.law_lane.specs.Standing.{Standing, Stopped, doing_by, standing, link_by, after_turn}
+use Rattle.ep_claim.specs.Lanes.Standing.{Standing, Stopped, doing_by, standing, link_by, after_turn}
 use Rattle.law_lane.specs.Hearing.{HearsRounds}
-use Rattle.law_lane.specs.Exchanges.{Lane, lane_after, opened_lane}
+use Rattle.ep_claim.specs.Lanes.Exchanges.{Lane, lane_after, opened_lane}
 use Rattle.law_lane.specs.LaneLaw.{LaneEnds, LanesEnd}
-use Rattle.law_lane.specs.Bounds.{round_most, command_most, TakesAtMost}
+use Rattle.ep_claim.specs.Lanes.Limits.{round_most, command_most, TakesAtMost}
 use Rattle.law_lane.proofs.Commanding.{heard_of, field_then, sends, ends_so}
 use Rattle.law_lane.proofs.Moving.{Leads, LeadsIn, leads_nowhere, leads_on, plays_lead, follows_lead, closing_leads}
 use Rattle.law_lane.proofs.Known.{one, Knows, HasCard, ByLink, after_round, after_closing, after_answer, once, unspent, answered_channel, closed_channel}
@@ -221,14 +221,14 @@ module _ (number_of : Activated → ℕ) (Q : Type 0) (fsdi : ℕ) (start : Talk
     abbrev begun : Reader
     begun = begin l.set.frames.card c l.reader
 
-    sent : (hs : List Hearing) (turn : Turn) (g : Field) → length hs ≤ command_most → Follows (told field) l.set hs begun f turn g
+    sent : (hs : List Heard) (turn : Turn) (g : Field) → length hs ≤ command_most → Follows (told field) l.set hs begun f turn g
         → LeadsIn fsdi start command_most (standing start results (Some l)) f (after_turn start results l.set turn) g
     sent hs turn g few follows =
         let moves = follows_lead fsdi start results l.set hs begun f g turn follows in
         let most : moves.0 ≤ length hs = moves.1 in
         (moves.0, omega (arith, most, few), by_wish moves.0 results (Command c next) (Some l) f g (after_turn start results l.set turn) w moves.2)
 
-    answered : (a : List ℕ) (q : Reader) (hs : List Hearing) (g : Field) → length hs ≤ command_most → ((r : List ℕ) → Ends (next r)) → Follows (told field) l.set hs begun f (Gives a q) g
+    answered : (a : List ℕ) (q : Reader) (hs : List Heard) (g : Field) → length hs ≤ command_most → ((r : List ℕ) → Ends (next r)) → Follows (told field) l.set hs begun f (Gives a q) g
         → Course (Command c next) results (Some l) f ch
     answered a q hs g few again follows =
         let after = after_answer number_of Q c x.form m x.some f g ch l k b a q hs follows in
@@ -286,7 +286,7 @@ module _ (number_of : Activated → ℕ) (Q : Type 0) (fsdi : ℕ) (start : Talk
         ) in
         (log, is, subst (λ p. Kept (Fails Q) (Command c next) [] log p AtLink) (sym (run_is c next later ch card_image b.presented b.image)) kept)
 
-    spent : (q : Reader) (hs : List Hearing) (g : Field) → length hs ≤ command_most → Follows (told field) l.set hs begun f (Spends q) g → Course (Command c next) results (Some l) f ch
+    spent : (q : Reader) (hs : List Heard) (g : Field) → length hs ≤ command_most → Follows (told field) l.set hs begun f (Spends q) g → Course (Command c next) results (Some l) f ch
     spent q hs g few follows =
         let o = (once number_of Q c x.form m x.some f g ch l k b (Spends q) hs follows).0 in
         let comes : Comes (told field) l c f (Spends q) g = record { hearings = hs; follows = follows } in
@@ -308,7 +308,7 @@ module _ (number_of : Activated → ℕ) (Q : Type 0) (fsdi : ℕ) (start : Talk
           ];
         }
 
-    by_turn : ((r : List ℕ) → Ends (next r)) → (turn : Turn) (hs : List Hearing) (g : Field) → length hs ≤ command_most → Follows (told field) l.set hs begun f turn g → IsEnded turn
+    by_turn : ((r : List ℕ) → Ends (next r)) → (turn : Turn) (hs : List Heard) (g : Field) → length hs ≤ command_most → Follows (told field) l.set hs begun f turn g → IsEnded turn
         → Course (Command c next) results (Some l) f ch
     by_turn again (Asks q) hs g few follows e = absurd e
     by_turn again (Gives a q) hs g few follows e = answered a q hs g few again follows

@@ -1,18 +1,18 @@
 -- The events so far stay, and the exchanges are those that were made.
 use Rattle.std.proofs.Common.{◌≡◌, ℕ, zero, suc, List, [], ◌∷◌, ◌++◌, refl, sym, ap, ◌∙◌, append_assoc, append-nil, Option, Some, None}
-use Rattle.ep_base.specs.Hearing.{Asked, Hearing, RoundEnd}
-use Rattle.ep_base.specs.Hearing as rounds
-use Rattle.ep_base.specs.Round.{Stage, round_hears}
-use Rattle.ep_base.specs.ReaderEnd.{Turn, Asks, Gives, Spends, Breaks}
-use Rattle.ep_base.specs.LinkFrames.{LinkSetting}
-use Rattle.ep_base.specs.Carry.{turn_on}
-use Rattle.ep_base.specs.Field.{Field}
-use Rattle.ep_base.specs.Radio.{OpenLink}
-use Rattle.ep_base.specs.Said.{Said, Tells, Apdu, EndLink, EndBreach}
-use Rattle.ep_base.specs.Talk.{Talk, Over, Say, Poll, Command, Close, Result, Round, Response, Closed, so_far}
-use Rattle.ep_base.specs.TransportRun.{HearEnd}
-use Rattle.law_lane.specs.Standing.{Standing, Doing, Rounds, Carries, Closing, Stopped, Astray, doing_by, standing, started, asked_by, link_by, after_stage, after_turn, hears_by, after_hearing, ending_of, events_by, events_of}
-use Rattle.law_lane.specs.Exchanges.{Exchange, Lane, field_answers, or_silence, goes_by, lane_step, lane_after, opened_lane}
+use Rattle.ep_base.specs.Air.Heard.{Ask, Heard, RoundEnd}
+use Rattle.ep_base.specs.Air.Heard as rounds
+use Rattle.ep_base.specs.Poll.Round.{Stage, round_hears}
+use Rattle.ep_base.specs.Link.ReaderEnd.{Turn, Asks, Gives, Spends, Breaks}
+use Rattle.ep_base.specs.Link.LinkFrames.{LinkSetting}
+use Rattle.ep_base.specs.Link.Carry.{turn_on}
+use Rattle.ep_base.specs.Cards.Field.{Field}
+use Rattle.ep_base.specs.Poll.Radio.{OpenLink}
+use Rattle.ep_rules.specs.EntryPoint.Event.{Said, Tells, Apdu, EndLink, EndBreach}
+use Rattle.ep_rules.specs.EntryPoint.Talk.{Talk, Over, Say, Poll, Command, Close, Result, Round, Response, Closed, so_far}
+use Rattle.ep_rules.specs.EntryPoint.TransportRun.{HearEnd}
+use Rattle.ep_claim.specs.Lanes.Standing.{Standing, Doing, Rounds, Carries, Closing, Stopped, Astray, doing_by, standing, started, asked_by, link_by, after_stage, after_turn, hears_by, after_hearing, ending_of, events_by, events_of}
+use Rattle.ep_claim.specs.Lanes.Exchanges.{Exchange, Lane, field_answers, or_silence, goes_by, lane_step, lane_after, opened_lane}
 use Rattle.law_lane.specs.Following.{EventsGrow, AreMade, ExchangesAreMade}
 
 -- ---- events
@@ -74,7 +74,7 @@ module _ (fsdi : ℕ) (talk : Talk) (results : List Result) where
   turn_grows set (Spends r) = (EndLink ∷ [], refl)
   turn_grows set (Breaks r) = (EndBreach ∷ [], refl)
 
-  heard_grows : (h : Hearing) (doing : Doing) → Extends (events_by talk results (ending_of doing)) (events_of talk (hears_by fsdi talk results h doing))
+  heard_grows : (h : Heard) (doing : Doing) → Extends (events_by talk results (ending_of doing)) (events_of talk (hears_by fsdi talk results h doing))
   heard_grows h (Rounds stage) = stage_grows (round_hears stage h)
   heard_grows h (Carries l) = turn_grows l.set (turn_on l.set l.reader h)
   heard_grows h (Closing l) = stands_grow Closed None
@@ -103,7 +103,7 @@ module _ (fsdi : ℕ) (talk : Talk) where
     abbrev FromStart : Lane → Type 0
     FromStart l = AreMade fsdi talk (started talk) start l.exchanges l.standing l.field
 
-    steps : (l : Lane) (o : Option Asked) → asked_by fsdi l.standing.doing ≡ o → FromStart l → FromStart (goes_by fsdi talk o l)
+    steps : (l : Lane) (o : Option Ask) → asked_by fsdi l.standing.doing ≡ o → FromStart l → FromStart (goes_by fsdi talk o l)
     steps l None e made = made
     steps l (Some ask) e made =
         let a = field_answers ask l.field in

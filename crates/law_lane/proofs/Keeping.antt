@@ -1,18 +1,18 @@
 -- A transaction that is over, or astray, stays so; hence what holds at its end holds whenever it is over.
 use Rattle.std.proofs.Common.{◌≡◌, ◌≢◌, ℕ, zero, suc, ◌+◌, List, ◌++◌, refl, sym, ap, subst, ◌∙◌, arith, Option, Some, None}
-use Rattle.ep_base.specs.Hearing.{Activated, RoundEnd}
-use Rattle.ep_base.specs.CardAnswer.{Image}
-use Rattle.ep_base.specs.Medium.{told}
-use Rattle.ep_base.specs.Field.{Field, field}
-use Rattle.ep_base.specs.Radio.{Radio}
-use Rattle.ep_base.specs.Talk.{Talk, ends_of}
-use Rattle.ep_base.specs.TransportRun.{HearEnd, Whole}
-use Rattle.ep_base.specs.Direct.{image_rules}
-use Rattle.ep_base.specs.Perfect.{perfect, channel}
-use Rattle.law_radio.specs.OverRadio.{Keeps}
-use Rattle.law_lane.specs.Standing.{Doing, Rounds, Carries, Closing, Stopped, Astray, asked_by, ending_of}
+use Rattle.ep_base.specs.Air.Heard.{Activated, RoundEnd}
+use Rattle.ep_base.specs.Cards.CardAnswer.{Image}
+use Rattle.ep_base.specs.Air.Medium.{told}
+use Rattle.ep_base.specs.Cards.Field.{Field, field}
+use Rattle.ep_base.specs.Poll.Radio.{Radio}
+use Rattle.ep_rules.specs.EntryPoint.Talk.{Talk, ends_of}
+use Rattle.ep_rules.specs.EntryPoint.TransportRun.{HearEnd, Whole}
+use Rattle.ep_base.specs.Cards.Direct.{image_rules}
+use Rattle.ep_rules.specs.EntryPoint.Perfect.{perfect, channel}
+use Rattle.ep_claim.specs.Promise.Perfection.{Keeps}
+use Rattle.ep_claim.specs.Lanes.Standing.{Doing, Rounds, Carries, Closing, Stopped, Astray, asked_by, ending_of}
 use Rattle.law_lane.specs.Hearing.{HearsRounds}
-use Rattle.law_lane.specs.Exchanges.{Lane, goes_by, lane_step, lane_after, opened_lane}
+use Rattle.ep_claim.specs.Lanes.Exchanges.{Lane, goes_by, lane_step, lane_after, opened_lane}
 use Rattle.law_lane.specs.LaneLaw.{LaneEnds, LanesKeep}
 use Rattle.law_lane.proofs.Moving.{times_more}
 use Rattle.law_lane.specs.Lossless.{NoLoss}

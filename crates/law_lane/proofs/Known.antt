@@ -2,25 +2,25 @@
 use Rattle.std.proofs.Common.{◌≡◌, ℕ, ◌+◌, ◌-◌, ◌<◌, ◌≤◌, Bool, true, false, List, [], ◌∷◌, ◌++◌, length, refl, sym, ap, subst, ◌∙◌, arith, length-append, Option, Some, None}
 use Rattle.std.proofs.lemmas.Bool.{and_parts}
 use Rattle.ep_base.specs.declared.air.CardKind.{CardKind}
-use Rattle.ep_base.specs.Hearing.{Activated, Hearing, RoundEnd, Empty, Collision, Unsupported, Broken, Found, wave_of_kind}
-use Rattle.ep_base.specs.Frame.{sealed}
-use Rattle.ep_base.specs.Spelling.{spelled}
-use Rattle.ep_base.specs.Block.{Deselect}
-use Rattle.ep_base.specs.Apdu.{is_command}
-use Rattle.ep_base.specs.Talk.{is_found}
-use Rattle.ep_base.specs.CardAnswer.{Image, card_answer}
-use Rattle.ep_base.specs.Medium.{told}
-use Rattle.ep_base.specs.Polling.{Polled, Came, NoCard, PlaysRound, PlaysRounds}
-use Rattle.ep_base.specs.ReaderEnd.{Reader, Turn, Gives, Spends, begin}
-use Rattle.ep_base.specs.Carry.{SendsBlock, Follows, AtRest, OfLink, OnceSo}
-use Rattle.ep_base.specs.Field.{Field, field, field_send}
-use Rattle.ep_base.specs.Radio.{OpenLink, link_to}
-use Rattle.ep_base.specs.Images.{Rules, stored}
-use Rattle.ep_base.specs.Direct.{image_rules}
-use Rattle.ep_base.specs.Perfect.{Channel, presents}
+use Rattle.ep_base.specs.Air.Heard.{Activated, Heard, RoundEnd, Empty, Collision, Unsupported, Broken, Found, wave_of_kind}
+use Rattle.ep_base.specs.Air.Frame.{sealed}
+use Rattle.ep_base.specs.Link.Spelling.{spelled}
+use Rattle.ep_base.specs.Link.Block.{Deselect}
+use Rattle.ep_base.specs.Cards.Apdu.{is_command}
+use Rattle.ep_rules.specs.EntryPoint.Talk.{is_found}
+use Rattle.ep_base.specs.Cards.CardAnswer.{Image, card_answer}
+use Rattle.ep_base.specs.Air.Medium.{told}
+use Rattle.ep_base.specs.Poll.Polling.{Polled, Came, NoCard, PlaysRound, PlaysRounds}
+use Rattle.ep_base.specs.Link.ReaderEnd.{Reader, Turn, Gives, Spends, begin}
+use Rattle.ep_base.specs.Link.Carry.{SendsBlock, Follows, AtRest, OfLink, OnceSo}
+use Rattle.ep_base.specs.Cards.Field.{Field, field, field_send}
+use Rattle.ep_base.specs.Poll.Radio.{OpenLink, link_to}
+use Rattle.ep_base.specs.Cards.Images.{Rules, stored}
+use Rattle.ep_base.specs.Cards.Direct.{image_rules}
+use Rattle.ep_rules.specs.EntryPoint.Perfect.{Channel, presents}
 use Rattle.law_wire.proofs.Limits.{images_keep}
 use Rattle.law_radio.proofs.Stored.{stored_at}
-use Rattle.law_round.specs.Lawful.{Lawful, faces}
+use Rattle.ep_base.specs.Cards.Lawful.{Lawful, faces}
 use Rattle.law_round.specs.Polled.{SameCards}
 use Rattle.law_round.specs.Acting.{are_passages, is_open, linked_at, party_at, shown}
 use Rattle.law_round.proofs.Lawfulness.{stays_lawful_law}
@@ -29,11 +29,11 @@ use Rattle.law_round.proofs.Acting.{others_stay_law}
 use Rattle.law_round.proofs.Carrying.{once_in_field_law, leaves_others_law, stays_ready_law}
 use Rattle.law_round.proofs.Closing.{closes_quietly_law}
 use Rattle.law_round.proofs.Lossless.{Passing, IsClear, round_passing, passing_block, command_clear, unspent_in_field}
-use Rattle.law_radio.specs.OverRadio.{numbers, AreDistinct, AreNumbered}
+use Rattle.ep_base.specs.Cards.Numbers.{numbers, AreDistinct, AreNumbered}
 use Rattle.law_radio.proofs.Numbers.{number_stays}
 use Rattle.law_radio.proofs.Cards.{AllImages, names_polled, numbers_polled, numbers_moved, numbered_again, found_number, images_polled, images_presented, images_moved, images_stay, image_at, none_selected}
 use Rattle.law_radio.proofs.Opening.{arrives}
-use Rattle.law_lane.specs.Standing.{link_by}
+use Rattle.ep_claim.specs.Lanes.Standing.{link_by}
 
 -- a field with an open link has the linked card
 open_linked : (kind : CardKind) (n : ℕ) (f : Field) → is_open kind n f ≡ true → linked_at kind f.air.gone n f.cards ≡ true
@@ -153,7 +153,7 @@ module _ (number_of : Activated → ℕ) (Q : Type 0) where
     pub log : g.log ≡ f.log
     pub knows : Knows m g ch.images
 
-  pub after_closing : (m : ℕ) (f g : Field) (ch : Channel Image) (l : OpenLink) (h : Hearing) → Knows m f ch.images → HasCard m f ch l
+  pub after_closing : (m : ℕ) (f g : Field) (ch : Channel Image) (l : OpenLink) (h : Heard) → Knows m f ch.images → HasCard m f ch l
       → SendsBlock (told field) l.set f Deselect (Some h) g → AfterClosing m f g ch
   after_closing m f g ch l h k b is =
       let n = b.place in
@@ -161,8 +161,8 @@ module _ (number_of : Activated → ℕ) (Q : Type 0) where
       let stay = others_stay_law l.set n Deselect (Some h) f g b.is is in
       let e : field_send f (wave_of_kind l.set.kind) (sealed (wave_of_kind l.set.kind) (spelled Deselect)) ≡ (Some h, g) = is in
       let lawful : Lawful g =
-      subst (λ (x : Option Hearing × Field). Lawful x.1) e ((stays_lawful_law f k.lawful).1 (wave_of_kind l.set.kind) (sealed (wave_of_kind l.set.kind) (spelled Deselect))) in
-      let room : f.room ≡ g.room = ap (λ (x : Option Hearing × Field). x.1.room) e in
+      subst (λ (x : Option Heard × Field). Lawful x.1) e ((stays_lawful_law f k.lawful).1 (wave_of_kind l.set.kind) (sealed (wave_of_kind l.set.kind) (spelled Deselect))) in
+      let room : f.room ≡ g.room = ap (λ (x : Option Heard × Field). x.1.room) e in
       let lf = open_linked l.set.kind n f b.is in
       let lg = open_linked l.set.kind n g quiet.2 in
       let same : numbers g.cards ≡ numbers f.cards =
@@ -188,12 +188,12 @@ module _ (number_of : Activated → ℕ) (Q : Type 0) where
     abbrev pub response_now : List ℕ
     response_now = (card_answer image_now c).0.response
 
-    pub once : (turn : Turn) (hs : List Hearing) → Follows (told field) l.set hs (begin l.set.frames.card c l.reader) f turn g
+    pub once : (turn : Turn) (hs : List Heard) → Follows (told field) l.set hs (begin l.set.frames.card c l.reader) f turn g
         → OnceSo (shown b.place f) c turn (shown b.place g) × (is_open l.set.kind b.place g ≡ true)
     once turn hs follows = once_in_field_law l.set b.place f l.reader c hs turn g b.is (b.ready some).0 (b.ready some).1 form follows
 
     -- where Q holds it doesn't spend the link
-    pub unspent : (r : Reader) (hs : List Hearing) → Q → Follows (told field) l.set hs (begin l.set.frames.card c l.reader) f (Spends r) g → ⊥
+    pub unspent : (r : Reader) (hs : List Heard) → Q → Follows (told field) l.set hs (begin l.set.frames.card c l.reader) f (Spends r) g → ⊥
     unspent r hs q follows = unspent_in_field l.set b.place f g l.reader c hs (Spends r) b.is (b.ready some).0 (b.ready some).1 form (b.there q, k.pass q) follows
 
     -- what a command that was answered leaves
@@ -204,7 +204,7 @@ module _ (number_of : Activated → ℕ) (Q : Type 0) where
       pub knows : Knows (m - 1) g (answered_channel ch image_now.number image_now c).images
       pub card : HasCard (m - 1) g (answered_channel ch image_now.number image_now c) (record { set = l.set; reader = r })
 
-    pub after_answer : (a : List ℕ) (r : Reader) (hs : List Hearing) → Follows (told field) l.set hs (begin l.set.frames.card c l.reader) f (Gives a r) g → AfterAnswer a r
+    pub after_answer : (a : List ℕ) (r : Reader) (hs : List Heard) → Follows (told field) l.set hs (begin l.set.frames.card c l.reader) f (Gives a r) g → AfterAnswer a r
     after_answer a r hs follows =
         let n = b.place in
         let i = image_now in

@@ -1,21 +1,21 @@
 -- Where exchanges lead a lane: through a poll round, an open command, and the closing of a link.
 use Rattle.std.proofs.Common.{◌≡◌, ℕ, zero, suc, ◌+◌, ◌≤◌, Bool, true, false, List, [], ◌∷◌, ◌++◌, length, refl, sym, ap, subst, ◌∙◌, arith, Option, Some, None}
 use Rattle.std.specs.Prelude.{if◌then◌else◌}
-use Rattle.ep_base.specs.Hearing.{Asked, Hearing, RoundEnd, Turn, Goes, Ends}
-use Rattle.ep_base.specs.Round.{Stage, round_asks, round_hears}
-use Rattle.ep_base.specs.Block.{Deselect}
-use Rattle.ep_base.specs.ReaderEnd as reader
-use Rattle.ep_base.specs.ReaderEnd.{Reader, Asks, Gives, Spends, Breaks, asked}
-use Rattle.ep_base.specs.LinkFrames.{LinkSetting}
-use Rattle.ep_base.specs.Medium.{told, Exchanges, ExchangesBy}
-use Rattle.ep_base.specs.Polling.{AfterExchange, Plays}
-use Rattle.ep_base.specs.Carry.{SendsBlock, turn_on, GoesOn, Follows}
-use Rattle.ep_base.specs.Field.{Field, field, field_reset, field_send}
-use Rattle.ep_base.specs.Lanes.{times}
-use Rattle.ep_base.specs.Radio.{OpenLink}
-use Rattle.ep_base.specs.Talk.{Talk, Result, Round, Closed}
-use Rattle.law_lane.specs.Standing.{Standing, Closing, standing, asks_block, asked_by, link_by, after_stage, after_turn, after_hearing}
-use Rattle.law_lane.specs.Exchanges.{Exchange, Lane, field_answers, exchanged, goes_by, lane_step, lane_after}
+use Rattle.ep_base.specs.Air.Heard.{Ask, Heard, RoundEnd, Turn, Goes, Ends}
+use Rattle.ep_base.specs.Poll.Round.{Stage, round_asks, round_hears}
+use Rattle.ep_base.specs.Link.Block.{Deselect}
+use Rattle.ep_base.specs.Link.ReaderEnd as reader
+use Rattle.ep_base.specs.Link.ReaderEnd.{Reader, Asks, Gives, Spends, Breaks, asked}
+use Rattle.ep_base.specs.Link.LinkFrames.{LinkSetting}
+use Rattle.ep_base.specs.Air.Medium.{told, Exchanges, ExchangesBy}
+use Rattle.ep_base.specs.Poll.Polling.{AfterExchange, Plays}
+use Rattle.ep_base.specs.Link.Carry.{SendsBlock, turn_on, GoesOn, Follows}
+use Rattle.ep_base.specs.Cards.Field.{Field, field, field_reset, field_send}
+use Rattle.ep_claim.specs.Lanes.Steps.{times}
+use Rattle.ep_base.specs.Poll.Radio.{OpenLink}
+use Rattle.ep_rules.specs.EntryPoint.Talk.{Talk, Result, Round, Closed}
+use Rattle.ep_claim.specs.Lanes.Standing.{Standing, Closing, standing, asks_block, asked_by, link_by, after_stage, after_turn, after_hearing}
+use Rattle.ep_claim.specs.Lanes.Exchanges.{Exchange, Lane, field_answers, exchanged, goes_by, lane_step, lane_after}
 
 pub times_more : {A : Type 0} (step : A → A) (m n : ℕ) (a : A) → times step (m + n) a ≡ times step n (times step m a)
 times_more step zero n a = let e : 0 + n ≡ n = omega arith in ap (λ k. times step k a) e
@@ -28,7 +28,7 @@ no_failure : true ≡ false → ⊥
 no_failure e = cc
 
 -- what a field answers to an exchange
-by_reset : (r : Bool) (ask : Asked) (f g : Field) (h : Hearing) → ExchangesBy (told field) r f ask (Some h) g → field_send (if r then field_reset f else f) ask.wave ask.bytes ≡ (Some h, g)
+by_reset : (r : Bool) (ask : Ask) (f g : Field) (h : Heard) → ExchangesBy (told field) r f ask (Some h) g → field_send (if r then field_reset f else f) ask.wave ask.bytes ≡ (Some h, g)
 by_reset false ask f g h x = x
 by_reset true ask f g h (true, u, is, x) =
     let e : (true, field_reset f) ≡ (true, u) = is in
@@ -60,7 +60,7 @@ module _ (fsdi : ℕ) (talk : Talk) where
       (b.0, times_more (lane_step fsdi talk) m n (at s f xs) ∙ (ap (λ l. lane_after fsdi talk n l) a.1 ∙ b.1))
 
   -- one exchange
-  leads_once : (s : Standing) (f g : Field) (ask : Asked) (h : Hearing) → asked_by fsdi s.doing ≡ Some ask → field_answers ask f ≡ (Some h, g)
+  leads_once : (s : Standing) (f g : Field) (ask : Ask) (h : Heard) → asked_by fsdi s.doing ≡ Some ask → field_answers ask f ≡ (Some h, g)
       → Leads 1 s f (after_hearing fsdi talk h s) g
   leads_once s f g ask h asks answers = λ xs. (
     xs ++ record { asked = ask; heard = h } ∷ [],
@@ -91,8 +91,8 @@ module _ (fsdi : ℕ) (talk : Talk) where
         let ends : e ≡ d = ap (λ o. or_else e o) is in
         subst (λ v. LeadsFrom n (Ends d) f e v) (sym same) (subst (λ c. LeadsFrom n (Ends d) f c f) (sym ends) (stays_in n (round_over d) f))
 
-    staged : (n : ℕ) (stage : Stage) (f u g : Field) (e : RoundEnd) (heard : Option Hearing) (Then : Hearing → Field → Option RoundEnd → Field → Type 0)
-        → ((h : Hearing) → Then h u (Some e) g → LeadsFrom n (round_hears stage h) u e g)
+    staged : (n : ℕ) (stage : Stage) (f u g : Field) (e : RoundEnd) (heard : Option Heard) (Then : Heard → Field → Option RoundEnd → Field → Type 0)
+        → ((h : Heard) → Then h u (Some e) g → LeadsFrom n (round_hears stage h) u e g)
         → Exchanges (told field) f (round_asks fsdi stage) heard u → AfterExchange (told field) fsdi Then heard u (Some e) g → LeadsFrom (suc n) (Goes stage) f e g
     staged n stage f u g e None Then more x after = let clash : Some e ≡ None = after.0 in absurd (let b : ⊥ = cc in b)
     staged n stage f u g e (Some h) Then more x after =
@@ -117,14 +117,14 @@ module _ (fsdi : ℕ) (talk : Talk) where
     last_turn n set turn last f g is same =
         subst (λ v. LeadsBy n set turn f last v) (sym same) (subst (λ z. LeadsBy n set turn f z f) (sym is) (stays_in n (after_turn talk results set turn) f))
 
-    turned : (n : ℕ) (set : LinkSetting) (hs : List Hearing) (turn last : reader.Turn) (f g : Field) → ((q : Reader) → Follows (told field) set hs q f last g → LeadsBy n set (Asks q) f last g)
+    turned : (n : ℕ) (set : LinkSetting) (hs : List Heard) (turn last : reader.Turn) (f g : Field) → ((q : Reader) → Follows (told field) set hs q f last g → LeadsBy n set (Asks q) f last g)
         → GoesOn (λ q v. Follows (told field) set hs q v last g) turn hs f last g → LeadsBy n set turn f last g
     turned n set hs (Asks q) last f g more x = more q x
     turned n set hs (Gives response q) last f g more x = last_turn n set (Gives response q) last f g x.1 x.2
     turned n set hs (Spends q) last f g more x = last_turn n set (Spends q) last f g x.1 x.2
     turned n set hs (Breaks q) last f g more x = last_turn n set (Breaks q) last f g x.1 x.2
 
-    pub follows_lead : (set : LinkSetting) (hs : List Hearing) (r : Reader) (f g : Field) (last : reader.Turn) → Follows (told field) set hs r f last g → LeadsBy (length hs) set (Asks r) f last g
+    pub follows_lead : (set : LinkSetting) (hs : List Heard) (r : Reader) (f g : Field) (last : reader.Turn) → Follows (told field) set hs r f last g → LeadsBy (length hs) set (Asks r) f last g
     follows_lead set [] r f g last x = last_turn 0 set (Asks r) last f g x.0 x.1
     follows_lead set (h ∷ hs) r f g last (u, is, x) =
         let s = after_turn talk results set (Asks r) in
@@ -134,6 +134,6 @@ module _ (fsdi : ℕ) (talk : Talk) where
 
     -- ---- the closing of a link
 
-    pub closing_leads : (l : OpenLink) (f g : Field) (h : Hearing) → SendsBlock (told field) l.set f Deselect (Some h) g
+    pub closing_leads : (l : OpenLink) (f g : Field) (h : Heard) → SendsBlock (told field) l.set f Deselect (Some h) g
         → Leads 1 (record { results = results; doing = Closing l }) f (standing talk (results ++ Closed ∷ []) None) g
     closing_leads l f g h is = leads_once (record { results = results; doing = Closing l }) f g (asks_block l.set Deselect) h refl is

@@ -3,29 +3,29 @@ use Rattle.std.proofs.Common.{◌≡◌, ℕ, zero, suc, false, true, List, [], 
 use Rattle.ep_base.specs.declared.air.CardKind.TheVariants as kinds
 use Rattle.ep_base.specs.declared.outcome.OutcomeKind.TheVariants.{Approved, EndApplication}
 use Rattle.ep_base.specs.declared.outcome.Message.TheVariants as messages
-use Rattle.ep_base.specs.Activation.{ats, atqb}
-use Rattle.ep_base.specs.Check.{low_bits, sent_bits, register_step, register_after, crc_a, crc_b}
-use Rattle.ep_base.specs.Frame.{ends_in_check, burst_bits, burst_bit}
-use Rattle.ep_base.specs.FrameSize.{frame_size}
-use Rattle.ep_base.specs.Spelling.{announced, is_cid, is_nad}
-use Rattle.ep_base.specs.TypeA.{APlan, a_takes}
-use Rattle.ep_base.specs.TypeB.{b_takes}
-use Rattle.ep_base.specs.Apdu.{is_command, command_data}
-use Rattle.ep_base.specs.Configuration.{Combination}
-use Rattle.ep_base.specs.PreProcessing.{Ready, prepared}
-use Rattle.ep_base.specs.Reading.{forest_by, forest_of}
-use Rattle.ep_base.specs.Directory.{directory}
-use Rattle.ep_base.specs.Candidates.{candidates}
-use Rattle.ep_base.specs.CardAnswer.{Answers, Image, card_answer}
-use Rattle.ep_base.specs.Said.{Said, Tells, Apdu, End, EndLink, Start, Pre, Notice, Card, Candidates, Activate, Outcome, Finished}
-use Rattle.ep_base.specs.Kernel.{Script, scripted}
-use Rattle.ep_base.specs.Talk.{Talk, rounds}
-use Rattle.ep_base.specs.TransportRun.{HearEnd, Whole, AtLink}
-use Rattle.ep_base.specs.EntryPoint.{start_b, transaction}
-use Rattle.ep_base.specs.Air.{Leg, Passes, Loses, Bursts, Leaves, Passage}
-use Rattle.ep_base.specs.Field.{placed_a, new_field}
-use Rattle.law_lane.specs.Standing.{ending_of, events_of}
-use Rattle.law_lane.specs.Exchanges.{Lane, opened_lane, lane_after}
+use Rattle.ep_base.specs.Cards.Activation.{ats, atqb}
+use Rattle.ep_base.specs.Air.Check.{low_bits, sent_bits, register_step, register_after, crc_a, crc_b}
+use Rattle.ep_base.specs.Air.Frame.{ends_in_check, burst_bits, burst_bit}
+use Rattle.ep_base.specs.Air.FrameSize.{frame_size}
+use Rattle.ep_base.specs.Link.Spelling.{announced, is_cid, is_nad}
+use Rattle.ep_base.specs.Cards.TypeA.{APlan, a_takes}
+use Rattle.ep_base.specs.Cards.TypeB.{b_takes}
+use Rattle.ep_base.specs.Cards.Apdu.{is_command, command_data}
+use Rattle.ep_rules.specs.EntryPoint.Configuration.{Combination}
+use Rattle.ep_rules.specs.EntryPoint.PreProcessing.{Ready, prepared}
+use Rattle.ep_base.specs.Objects.Reading.{forest_by, forest_of}
+use Rattle.ep_base.specs.Objects.Directory.{directory}
+use Rattle.ep_rules.specs.EntryPoint.Candidates.{candidates}
+use Rattle.ep_base.specs.Cards.CardAnswer.{Answers, Image, card_answer}
+use Rattle.ep_rules.specs.EntryPoint.Event.{Said, Tells, Apdu, End, EndLink, Start, Pre, Notice, Card, Candidates, Activate, Outcome, Finished}
+use Rattle.ep_rules.specs.EntryPoint.Kernel.{Script, scripted}
+use Rattle.ep_rules.specs.EntryPoint.Talk.{Talk, rounds}
+use Rattle.ep_rules.specs.EntryPoint.TransportRun.{HearEnd, Whole, AtLink}
+use Rattle.ep_rules.specs.EntryPoint.Transaction.{start_b, transaction}
+use Rattle.ep_base.specs.Air.Fates.{Way, Passes, Loses, Bursts, Leaves, Fate}
+use Rattle.ep_base.specs.Cards.Field.{placed_a, new_field}
+use Rattle.ep_claim.specs.Lanes.Standing.{ending_of, events_of}
+use Rattle.ep_claim.specs.Lanes.Exchanges.{Lane, opened_lane, lane_after}
 
 -- an acquirer with one Combination, and a purchase of 10.00
 abbrev combination : Combination
@@ -87,16 +87,16 @@ card responses wtx = record {
 abbrev plan : APlan
 plan = record { uid = 1 ∷ 2 ∷ 3 ∷ 4 ∷ []; sak = 0x20; fsci = 8; fwi = 4; historical = [] }
 
-abbrev both : Leg → Leg → Passage
+abbrev both : Way → Way → Fate
 both down up = record { down = down; up = up }
 
 -- so many exchanges in which all frames pass
-abbrev passing : ℕ → List Passage → List Passage
+abbrev passing : ℕ → List Fate → List Fate
 passing zero fates = fates
 passing (suc n) fates = both Passes Passes ∷ passing n fates
 
 -- a purchase after so many exchanges
-run : ℕ → List (List ℕ) → ℕ → List Passage → Lane
+run : ℕ → List (List ℕ) → ℕ → List Fate → Lane
 run n responses wtx fates = lane_after 8 talk n (opened_lane talk (new_field (placed_a plan (card responses wtx) ∷ []) [] fates 100))
 
 -- how a purchase ended, its events, its executions and how many exchanges it took

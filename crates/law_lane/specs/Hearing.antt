@@ -1,16 +1,16 @@
 -- What a transaction hears over a medium with one poll round for each of its polls, in whole rounds, commands and closings (this project's own).
 use Rattle.std.specs.Prelude.{◌≡◌, ℕ, List, [], ◌∷◌, Option, Some, None}
-use Rattle.ep_base.specs.Hearing.{Hearing, RoundEnd}
-use Rattle.ep_base.specs.Medium.{MediumSteps}
-use Rattle.ep_base.specs.Polling.{PlaysRound}
-use Rattle.ep_base.specs.Block.{Deselect}
-use Rattle.ep_base.specs.ReaderEnd.{Turn, Asks, Gives, Spends, Breaks}
-use Rattle.ep_base.specs.LinkFrames.{LinkSetting}
-use Rattle.ep_base.specs.Carry.{SendsBlock}
-use Rattle.ep_base.specs.Radio.{OpenLink, Comes}
-use Rattle.ep_base.specs.Talk.{Talk, Over, Say, Poll, Command, Close, Result, Round, Response, Closed}
-use Rattle.ep_base.specs.TransportRun.{HearEnd, Whole, AtLink, AtBreach}
-use Rattle.law_lane.specs.Standing.{link_by}
+use Rattle.ep_base.specs.Air.Heard.{Heard, RoundEnd}
+use Rattle.ep_base.specs.Air.Medium.{MediumSteps}
+use Rattle.ep_base.specs.Poll.Polling.{PlaysRound}
+use Rattle.ep_base.specs.Link.Block.{Deselect}
+use Rattle.ep_base.specs.Link.ReaderEnd.{Turn, Asks, Gives, Spends, Breaks}
+use Rattle.ep_base.specs.Link.LinkFrames.{LinkSetting}
+use Rattle.ep_base.specs.Link.Carry.{SendsBlock}
+use Rattle.ep_base.specs.Poll.Radio.{OpenLink, Comes}
+use Rattle.ep_rules.specs.EntryPoint.Talk.{Talk, Over, Say, Poll, Command, Close, Result, Round, Response, Closed}
+use Rattle.ep_rules.specs.EntryPoint.TransportRun.{HearEnd, Whole, AtLink, AtBreach}
+use Rattle.ep_claim.specs.Lanes.Standing.{link_by}
 
 module _ {S : Type 0} (steps : MediumSteps S) (fsdi : ℕ) where
   -- After a command: with its response the link is open for the next one, and a link that is spent or broken ends the hearing (ISO/IEC 14443-4).
@@ -33,6 +33,6 @@ module _ {S : Type 0} (steps : MediumSteps S) (fsdi : ℕ) where
       (turn : Turn) × (u : S) × Comes steps l c s turn u × HearsTurn (λ response n v. HearsRounds (next response) (Some n) v) l.set turn u heard ending t
   HearsRounds (Command c next) None s heard ending t = ⊥
   HearsRounds (Close next) (Some l) s heard ending t =
-      (answer : Hearing) × (u : S) × SendsBlock steps l.set s Deselect (Some answer) u
+      (answer : Heard) × (u : S) × SendsBlock steps l.set s Deselect (Some answer) u
       × (rest : List Result) × (heard ≡ Closed ∷ rest) × HearsRounds next None u rest ending t
   HearsRounds (Close next) None s heard ending t = ⊥

@@ -1,20 +1,20 @@
 -- A transaction of exchanges over a field, against the perfect run for the ends of its rounds (this project's own).
 use Rattle.std.specs.Prelude.{◌≡◌, ◌≢◌, ℕ, ◌≤◌, false, List, ◌++◌, None}
-use Rattle.ep_base.specs.Hearing.{Activated, RoundEnd}
-use Rattle.ep_base.specs.CardAnswer.{Image}
-use Rattle.ep_base.specs.Medium.{told}
-use Rattle.ep_base.specs.Field.{Field, field}
-use Rattle.ep_base.specs.Talk.{Talk, ends_of}
-use Rattle.ep_base.specs.TransportRun.{HearEnd}
-use Rattle.ep_base.specs.Direct.{image_rules}
-use Rattle.ep_base.specs.Perfect.{perfect, channel}
-use Rattle.ep_base.specs.Radio.{Radio}
-use Rattle.law_radio.specs.OverRadio.{IsNew, IsCarried, Keeps}
-use Rattle.law_radio.specs.Closings.{ClosesFound}
-use Rattle.law_lane.specs.Standing.{Stopped, Astray, asked_by}
-use Rattle.law_lane.specs.Bounds.{TakesAtMost}
+use Rattle.ep_base.specs.Air.Heard.{Activated, RoundEnd}
+use Rattle.ep_base.specs.Cards.CardAnswer.{Image}
+use Rattle.ep_base.specs.Air.Medium.{told}
+use Rattle.ep_base.specs.Cards.Field.{Field, field}
+use Rattle.ep_rules.specs.EntryPoint.Talk.{Talk, ends_of}
+use Rattle.ep_rules.specs.EntryPoint.TransportRun.{HearEnd}
+use Rattle.ep_base.specs.Cards.Direct.{image_rules}
+use Rattle.ep_rules.specs.EntryPoint.Perfect.{perfect, channel}
+use Rattle.ep_base.specs.Poll.Radio.{Radio}
+use Rattle.ep_claim.specs.Promise.Perfection.{IsNew, IsCarried, Keeps}
+use Rattle.ep_claim.specs.Promise.Closings.{ClosesFound}
+use Rattle.ep_claim.specs.Lanes.Standing.{Stopped, Astray, asked_by}
+use Rattle.ep_claim.specs.Lanes.Limits.{TakesAtMost}
 use Rattle.law_lane.specs.Hearing.{HearsRounds}
-use Rattle.law_lane.specs.Exchanges.{Lane, opened_lane, lane_after}
+use Rattle.ep_claim.specs.Lanes.Exchanges.{Lane, opened_lane, lane_after}
 
 -- After so many exchanges, which are no more than the talk takes at most, the transaction is over: its results are those of whole rounds, commands
 -- and closings over the field, and it keeps to the perfect run for the ends of its rounds, and whatever ends come later (this project's own).

@@ -1,16 +1,16 @@
 -- A transaction of exchanges over a field in which no frame is lost (this project's own).
 use Rattle.std.specs.Prelude.{◌≡◌, ℕ, false}
-use Rattle.ep_base.specs.Hearing.{Activated}
-use Rattle.ep_base.specs.Air.{AllPass}
-use Rattle.ep_base.specs.CardAnswer.{Image}
-use Rattle.ep_base.specs.Field.{Field}
-use Rattle.ep_base.specs.Radio.{Radio}
-use Rattle.ep_base.specs.Talk.{Talk}
-use Rattle.ep_base.specs.TransportRun.{HearEnd, Whole}
-use Rattle.law_radio.specs.OverRadio.{IsNew, IsCarried}
-use Rattle.law_radio.specs.Closings.{ClosesFound}
-use Rattle.law_lane.specs.Standing.{Stopped}
-use Rattle.law_lane.specs.Exchanges.{opened_lane, lane_after}
+use Rattle.ep_base.specs.Air.Heard.{Activated}
+use Rattle.ep_base.specs.Air.Fates.{AllPass}
+use Rattle.ep_base.specs.Cards.CardAnswer.{Image}
+use Rattle.ep_base.specs.Cards.Field.{Field}
+use Rattle.ep_base.specs.Poll.Radio.{Radio}
+use Rattle.ep_rules.specs.EntryPoint.Talk.{Talk}
+use Rattle.ep_rules.specs.EntryPoint.TransportRun.{HearEnd, Whole}
+use Rattle.ep_claim.specs.Promise.Perfection.{IsNew, IsCarried}
+use Rattle.ep_claim.specs.Promise.Closings.{ClosesFound}
+use Rattle.ep_claim.specs.Lanes.Standing.{Stopped}
+use Rattle.ep_claim.specs.Lanes.Exchanges.{opened_lane, lane_after}
 use Rattle.law_lane.specs.LaneLaw.{LaneEnds}
 
 -- Each end to which the transaction comes is whole: no link failed. So it is after every count of exchanges, where the transaction is over then

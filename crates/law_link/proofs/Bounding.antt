@@ -2,15 +2,15 @@
 use Rattle.std.proofs.Common.{◌≡◌, ℕ, zero, suc, ◌+◌, ◌-◌, ◌*◌, ◌<◌, ◌≤◌, Bool, true, false, List, [], ◌∷◌, ◌++◌, length, drop, refl, ⊎_elim, arith, length-append, length-drop}
 use Rattle.std.specs.Prelude.{if◌then◌else◌}
 use Rattle.std.proofs.lemmas.Bool.Decides.{leb_tells, nat_tests}
-use Rattle.ep_base.specs.Block.{I, RAck, RNak, Deselect, Wtx, Heard, Bad, Junk, Intact, other, same, is_bad, is_wtx, is_nak, count}
-use Rattle.ep_base.specs.Parts.{cut_by, cut}
-use Rattle.ep_base.specs.ReaderEnd.{Phase, Idle, Sending, Receiving, Reader, question, asked, Turn, Asks, Gives, Spends, Breaks, is_fit, takes, appended, on_i, on_ack, on_bad, on_wtx, kept, reader_hears, begin}
-use Rattle.ep_base.specs.CardEnd.{Image, Card, Answer}
-use Rattle.ep_base.specs.Link.{Frames, Fate, goes_down, comes_up, goes_on, hears_answer, run}
+use Rattle.ep_base.specs.Link.Block.{I, RAck, RNak, Deselect, Wtx, ReadBlock, Bad, Junk, Intact, other, same, is_bad, is_wtx, is_nak, count}
+use Rattle.ep_base.specs.Link.Parts.{cut_by, cut}
+use Rattle.ep_base.specs.Link.ReaderEnd.{Phase, Idle, Sending, Receiving, Reader, question, asked, Turn, Asks, Gives, Spends, Breaks, is_fit, takes, appended, on_i, on_ack, on_bad, on_wtx, kept, reader_hears, begin}
+use Rattle.ep_base.specs.Link.CardEnd.{Image, Card, Answer}
+use Rattle.ep_base.specs.Link.OneLink.{Frames, Fate, goes_down, comes_up, goes_on, hears_answer, run}
 use Rattle.law_link.specs.Bounds.{after_all, IsBounded, IsEnded, IsOver, toggle_of, toggle, toggles_in, BoundedToggles, CommandEnds, LinkEnds, FewToggles}
 
 -- an R(ACK) without a toggle
-abbrev is_ack : Heard → Bool
+abbrev is_ack : ReadBlock → Bool
 is_ack Bad = false
 is_ack Junk = false
 is_ack (Intact (I k ch inf)) = false
@@ -20,14 +20,14 @@ is_ack (Intact Deselect) = false
 is_ack (Intact (Wtx p m)) = false
 
 -- 1 where the latest hearing was bad
-abbrev top : List Heard → ℕ
+abbrev top : List ReadBlock → ℕ
 top [] = 0
 top (Bad ∷ s) = 1
 top (Junk ∷ s) = 0
 top (Intact b ∷ s) = 0
 
 -- an R(NAK) is sent after a bad hearing alone
-nak_top : (n : Bool) (phase : Phase) (s : List Heard) → is_nak (question n phase s) ≡ true → top s ≡ 1
+nak_top : (n : Bool) (phase : Phase) (s : List ReadBlock) → is_nak (question n phase s) ≡ true → top s ≡ 1
 nak_top n phase (Bad ∷ s) e = refl
 nak_top n Idle [] e = cc
 nak_top n Idle (Junk ∷ s) e = cc
@@ -48,7 +48,7 @@ nak_top n (Receiving got) (Intact Deselect ∷ s) e = cc
 nak_top n (Receiving got) (Intact (Wtx p m) ∷ s) e = cc
 
 -- what holds of the hearings since the toggle
-record IsKept (s : List Heard) : Type 0 where
+record IsKept (s : List ReadBlock) : Type 0 where
   bad : count is_bad s ≤ 2
   waits : count is_wtx s ≤ 16
   acks : count is_ack s + top s ≤ count is_bad s
@@ -57,7 +57,7 @@ record IsKept (s : List Heard) : Type 0 where
 kept_none : IsKept []
 kept_none = record { bad = omega arith; waits = omega arith; acks = omega arith; all = refl }
 
-few : (s : List Heard) → IsKept s → length s ≤ 20
+few : (s : List ReadBlock) → IsKept s → length s ≤ 20
 few s k = omega (arith, k.bad, k.waits, k.acks, k.all)
 
 -- the toggles that a command may still take
@@ -99,7 +99,7 @@ moves : (n : Bool) → toggle_of n (other n) ≡ 1
 moves true = refl
 moves false = refl
 
-module _ (frame : ℕ) (n : Bool) (s : List Heard) (k : IsKept s) where
+module _ (frame : ℕ) (n : Bool) (s : List ReadBlock) (k : IsKept s) where
   abbrev at : Phase → Reader
   at phase = record { number = n; phase = phase; since = s }
 
@@ -145,7 +145,7 @@ module _ (frame : ℕ) (n : Bool) (s : List Heard) (k : IsKept s) where
         | false ↦ λ e. k
       ] refl
 
-  falls : (phase : Phase) → IsOpen phase → (h : Heard) → Falls (at phase) (reader_hears frame (at phase) h)
+  falls : (phase : Phase) → IsOpen phase → (h : ReadBlock) → Falls (at phase) (reader_hears frame (at phase) h)
   falls phase o Bad = falls_bad phase o
   falls phase o Junk = k
   falls phase o (Intact (I j ch inf)) =
@@ -156,7 +156,7 @@ module _ (frame : ℕ) (n : Bool) (s : List Heard) (k : IsKept s) where
   falls phase o (Intact Deselect) = k
   falls phase o (Intact (Wtx p m)) = falls_wtx p m phase o
 
-reader_falls : (frame : ℕ) (r : Reader) → IsKept r.since → IsOpen r.phase → (h : Heard) → Falls r (reader_hears frame r h)
+reader_falls : (frame : ℕ) (r : Reader) → IsKept r.since → IsOpen r.phase → (h : ReadBlock) → Falls r (reader_hears frame r h)
 reader_falls frame r k o h = falls frame r.number r.since k r.phase o h
 
 -- the number of parts
@@ -169,7 +169,7 @@ parts_few (suc k) size bytes fuel wide =
     (leb_tells (length bytes) size)
 
 -- the reader alone
-bounded_from : (frame : ℕ) (hs : List Heard) (old : Reader) → ((r : Reader) → IsKept r.since → IsOpen r.phase → IsBounded (after_all frame hs (Asks r))) → (t : Turn) → Falls old t → IsBounded (after_all frame hs t)
+bounded_from : (frame : ℕ) (hs : List ReadBlock) (old : Reader) → ((r : Reader) → IsKept r.since → IsOpen r.phase → IsBounded (after_all frame hs (Asks r))) → (t : Turn) → Falls old t → IsBounded (after_all frame hs t)
 bounded_from frame hs old next (Asks r) f = next r f.0 f.1
 bounded_from frame [] old next (Gives response r) f = f.0
 bounded_from frame (h ∷ hs) old next (Gives response r) f = f.0
@@ -178,11 +178,11 @@ bounded_from frame (h ∷ hs) old next (Spends r) f = f
 bounded_from frame [] old next (Breaks r) f = few r.since f
 bounded_from frame (h ∷ hs) old next (Breaks r) f = few r.since f
 
-bounded : (frame : ℕ) (hs : List Heard) (r : Reader) → IsKept r.since → IsOpen r.phase → IsBounded (after_all frame hs (Asks r))
+bounded : (frame : ℕ) (hs : List ReadBlock) (r : Reader) → IsKept r.since → IsOpen r.phase → IsBounded (after_all frame hs (Asks r))
 bounded frame [] r k o = (few r.since k, k.bad)
 bounded frame (h ∷ hs) r k o = bounded_from frame hs r (bounded frame hs) (reader_hears frame r h) (reader_falls frame r k o h)
 
-ended_from : (frame : ℕ) (hs : List Heard) (old : Reader) → ((r : Reader) → IsKept r.since → IsOpen r.phase → work r ≤ length hs → IsEnded (after_all frame hs (Asks r))) → work old ≤ suc (length hs) → (t : Turn) → Falls old t → IsEnded (after_all frame hs t)
+ended_from : (frame : ℕ) (hs : List ReadBlock) (old : Reader) → ((r : Reader) → IsKept r.since → IsOpen r.phase → work r ≤ length hs → IsEnded (after_all frame hs (Asks r))) → work old ≤ suc (length hs) → (t : Turn) → Falls old t → IsEnded (after_all frame hs t)
 ended_from frame hs old next le (Asks r) f = next r f.0 f.1 (omega (arith, f.2, le))
 ended_from frame [] old next le (Gives response r) f = tt
 ended_from frame (h ∷ hs) old next le (Gives response r) f = tt
@@ -195,7 +195,7 @@ ended_from frame (h ∷ hs) old next le (Breaks r) f = tt
 some_work : (r : Reader) → IsKept r.since → IsOpen r.phase → 1 ≤ work r
 some_work r k o = omega (arith, few r.since k, some_toggle r.phase o)
 
-ended : (frame : ℕ) (hs : List Heard) (r : Reader) → IsKept r.since → IsOpen r.phase → work r ≤ length hs → IsEnded (after_all frame hs (Asks r))
+ended : (frame : ℕ) (hs : List ReadBlock) (r : Reader) → IsKept r.since → IsOpen r.phase → work r ≤ length hs → IsEnded (after_all frame hs (Asks r))
 ended frame [] r k o le = absurd (omega (arith, some_work r k o, le))
 ended frame (h ∷ hs) r k o le = ended_from frame hs r (ended frame hs) le (reader_hears frame r h) (reader_falls frame r k o h)
 
@@ -213,7 +213,7 @@ over frames image (f ∷ fates) card r k o le =
     over_from frames image fates a.card r (over frames image fates a.card) le (hears_answer f.up frames r a) (reader_falls frames.reader r k o (comes_up f.up a.block))
 
 -- the toggles
-toggled_from : (frame : ℕ) (hs : List Heard) (old : Reader) → ((r : Reader) → IsKept r.since → IsOpen r.phase → toggles_in frame hs (Asks r) ≤ toggles r.phase) → (t : Turn) → Falls old t → toggle old t + toggles_in frame hs t ≤ toggles old.phase
+toggled_from : (frame : ℕ) (hs : List ReadBlock) (old : Reader) → ((r : Reader) → IsKept r.since → IsOpen r.phase → toggles_in frame hs (Asks r) ≤ toggles r.phase) → (t : Turn) → Falls old t → toggle old t + toggles_in frame hs t ≤ toggles old.phase
 toggled_from frame hs old next (Asks r) f = omega (arith, next r f.0 f.1, f.3)
 toggled_from frame [] old next (Gives response r) f = omega (arith, f.1)
 toggled_from frame (h ∷ hs) old next (Gives response r) f = omega (arith, f.1)
@@ -222,7 +222,7 @@ toggled_from frame (h ∷ hs) old next (Spends r) f = omega arith
 toggled_from frame [] old next (Breaks r) f = omega arith
 toggled_from frame (h ∷ hs) old next (Breaks r) f = omega arith
 
-toggled : (frame : ℕ) (hs : List Heard) (r : Reader) → IsKept r.since → IsOpen r.phase → toggles_in frame hs (Asks r) ≤ toggles r.phase
+toggled : (frame : ℕ) (hs : List ReadBlock) (r : Reader) → IsKept r.since → IsOpen r.phase → toggles_in frame hs (Asks r) ≤ toggles r.phase
 toggled frame [] r k o = omega arith
 toggled frame (h ∷ hs) r k o = toggled_from frame hs r (toggled frame hs) (reader_hears frame r h) (reader_falls frame r k o h)
 
@@ -231,7 +231,7 @@ begun_work card_frame command r wide short =
     let p : 13 * length (cut (card_frame - 3) command).others ≤ length command = parts_few (length command) (card_frame - 3) command (omega arith) (omega arith) in
     omega (arith, p, short)
 
-none_kept : (s : List Heard) → s ≡ [] → IsKept s
+none_kept : (s : List ReadBlock) → s ≡ [] → IsKept s
 none_kept s e = rw e kept_none
 
 pub bounded_toggles : BoundedToggles

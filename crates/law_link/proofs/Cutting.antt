@@ -3,7 +3,7 @@ use Rattle.std.proofs.Common.{◌≡◌, ℕ, zero, suc, ◌+◌, ◌-◌, ◌<�
 use Rattle.std.specs.List.{concat}
 use Rattle.std.proofs.lemmas.List.{append-nil, take-append-drop}
 use Rattle.std.proofs.lemmas.Bool.Decides.{leb_tells}
-use Rattle.ep_base.specs.Parts.{Cut, cut_by, cut}
+use Rattle.ep_base.specs.Link.Parts.{Cut, cut_by, cut}
 
 -- a part that fits a frame, and isn't empty
 abbrev pub Fit : ℕ → List ℕ → Type 0

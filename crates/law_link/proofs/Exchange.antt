@@ -4,14 +4,14 @@ use Rattle.std.specs.Prelude.{nat_le, cond, if◌then◌else◌}
 use Rattle.std.specs.List.{concat}
 use Rattle.std.proofs.lemmas.List.{append-nil}
 use Rattle.std.proofs.lemmas.Bool.Decides.{leb_tells, nat_tests}
-use Rattle.ep_base.specs.Block.{Block, I, RAck, RNak, Deselect, Wtx, Heard, Bad, Intact, other, same, is_bad, is_wtx, is_nak, count}
-use Rattle.ep_base.specs.Parts.{Cut, cut, more}
-use Rattle.ep_base.specs.ReaderEnd.{Phase, Idle, Sending, Receiving, Reader, question, asked, Turn, Asks, Gives, Spends, Breaks, is_fit, takes, appended, on_i, kept, reader_hears}
-use Rattle.ep_base.specs.ReaderEnd as Rules
-use Rattle.ep_base.specs.ReaderEnd.{begin}
-use Rattle.ep_base.specs.CardAnswer.{Answered}
-use Rattle.ep_base.specs.CardEnd.{Image, Parts, Waits, Card, Answer, sends_first, executes, card_hears}
-use Rattle.ep_base.specs.Link.{Frames, Fate, goes_down, goes_on, hears_answer, run}
+use Rattle.ep_base.specs.Link.Block.{Block, I, RAck, RNak, Deselect, Wtx, ReadBlock, Bad, Intact, other, same, is_bad, is_wtx, is_nak, count}
+use Rattle.ep_base.specs.Link.Parts.{Cut, cut, more}
+use Rattle.ep_base.specs.Link.ReaderEnd.{Phase, Idle, Sending, Receiving, Reader, question, asked, Turn, Asks, Gives, Spends, Breaks, is_fit, takes, appended, on_i, kept, reader_hears}
+use Rattle.ep_base.specs.Link.ReaderEnd as Rules
+use Rattle.ep_base.specs.Link.ReaderEnd.{begin}
+use Rattle.ep_base.specs.Cards.CardAnswer.{Answered}
+use Rattle.ep_base.specs.Link.CardEnd.{Image, Parts, Waits, Card, Answer, sends_first, executes, card_hears}
+use Rattle.ep_base.specs.Link.OneLink.{Frames, Fate, goes_down, goes_on, hears_answer, run}
 use Rattle.law_link.specs.Once.{IsImage, AreFrames, IsIdle, ExactlyOnce, OneCommand, is_loss, losses, IsSafe}
 use Rattle.law_link.proofs.Cutting.{AllFit, cut_joins, cut_fits}
 
@@ -67,7 +67,7 @@ module _ (frames : Frames) (image : Image) (before : List (List ℕ)) (command :
   phase_at (Given got part others) = Receiving got
 
   -- the reader's number is other m
-  abbrev pub reader_at : Bool → Place → List Heard → Reader
+  abbrev pub reader_at : Bool → Place → List ReadBlock → Reader
   reader_at m place s = record { number = other m; phase = phase_at place; since = s }
 
   -- the card's number is m where it hasn't taken the reader's block, and other m where it has
@@ -98,7 +98,7 @@ module _ (frames : Frames) (image : Image) (before : List (List ℕ)) (command :
   Fine (Given got part others) = (got ++ (part ++ concat others) ≡ reply.response) × AllFit frames.reader (part ∷ others)
 
   -- what the hearings since the toggle say at any time
-  abbrev Holds : Place → List Heard → Type 0
+  abbrev Holds : Place → List ReadBlock → Type 0
   Holds (Before last sent part left) s = count is_wtx s ≡ 0
   Holds (Between sent part next left) s = Unit {0}
   Holds (Working part wtx) s = count is_wtx s + wtx ≤ reply.wtx + count is_bad s
@@ -107,7 +107,7 @@ module _ (frames : Frames) (image : Image) (before : List (List ℕ)) (command :
   Holds (Given got part others) s = Unit {0}
 
   -- what the reader sends before an exchange
-  abbrev pub Fits : Bool → Place → List Heard → Type 0
+  abbrev pub Fits : Bool → Place → List ReadBlock → Type 0
   Fits m (Before last sent part left) s =
       (count is_wtx s ≡ 0) × ((question (other m) (Sending part left) s ≡ I (other m) (more left) part) ⊎ (question (other m) (Sending part left) s ≡ RNak (other m)))
   Fits m (Between sent part next left) s = question (other m) (Sending part (next ∷ left)) s ≡ RNak (other m)
@@ -119,7 +119,7 @@ module _ (frames : Frames) (image : Image) (before : List (List ℕ)) (command :
   Fits m (Given got part others) s = question (other m) (Receiving got) s ≡ RAck (other m)
 
   -- what it has sent where the card has just answered
-  abbrev pub Answers : Bool → Place → List Heard → Type 0
+  abbrev pub Answers : Bool → Place → List ReadBlock → Type 0
   Answers m (Before last sent part left) s = (count is_wtx s ≡ 0) × (question (other m) (Sending part left) s ≡ RNak (other m))
   Answers m (Between sent part next left) s = Unit {0}
   Answers m (Working part wtx) s = count is_wtx s + wtx + 1 ≤ reply.wtx + count is_bad s
@@ -130,7 +130,7 @@ module _ (frames : Frames) (image : Image) (before : List (List ℕ)) (command :
   -- what the reader does next, and the card then
   abbrev pub GoodTurn : Turn → Card → Type 0
   GoodTurn (Asks r) card =
-      (m : Bool) × (place : Place) × (s : List Heard) × Fine place × Fits m place s × (count is_bad s ≤ 2) × (r ≡ reader_at m place s) × (card ≡ card_at m place)
+      (m : Bool) × (place : Place) × (s : List ReadBlock) × Fine place × Fits m place s × (count is_bad s ≤ 2) × (r ≡ reader_at m place s) × (card ≡ card_at m place)
   GoodTurn (Gives response r) card = (response ≡ reply.response) × (card.log ≡ after) × IsIdle r card
   GoodTurn (Spends r) card = (count is_bad r.since ≡ 3) × ((card.log ≡ before) ⊎ (card.log ≡ after))
   GoodTurn (Breaks r) card = ⊥
@@ -143,7 +143,7 @@ module _ (frames : Frames) (image : Image) (before : List (List ℕ)) (command :
   log_at m (Asking last got next others) = inr refl
   log_at m (Given got part others) = inr refl
 
-  holds_fits : (m : Bool) (place : Place) (s : List Heard) → Fits m place s → Holds place s
+  holds_fits : (m : Bool) (place : Place) (s : List ReadBlock) → Fits m place s → Holds place s
   holds_fits m (Before last sent part left) s f = f.0
   holds_fits m (Between sent part next left) s f = tt
   holds_fits m (Working part wtx) s f = ⊎_elim (λ h. omega (arith, h.1)) (λ h. h.1) f
@@ -151,7 +151,7 @@ module _ (frames : Frames) (image : Image) (before : List (List ℕ)) (command :
   holds_fits m (Asking last got next others) s f = tt
   holds_fits m (Given got part others) s f = tt
 
-  holds_answers : (m : Bool) (place : Place) (s : List Heard) → Answers m place s → Holds place s
+  holds_answers : (m : Bool) (place : Place) (s : List ReadBlock) → Answers m place s → Holds place s
   holds_answers m (Before last sent part left) s f = f.0
   holds_answers m (Between sent part next left) s f = tt
   holds_answers m (Working part wtx) s f = omega arith
@@ -159,7 +159,7 @@ module _ (frames : Frames) (image : Image) (before : List (List ℕ)) (command :
   holds_answers m (Asking last got next others) s f = tt
   holds_answers m (Given got part others) s f = tt
 
-  bad_fits : (m : Bool) (place : Place) (s : List Heard) → Holds place s → Fits m place (Bad ∷ s)
+  bad_fits : (m : Bool) (place : Place) (s : List ReadBlock) → Holds place s → Fits m place (Bad ∷ s)
   bad_fits m (Before last sent part left) s h = (h, inr refl)
   bad_fits m (Between sent part next left) s h = refl
   bad_fits m (Working part wtx) s h = inl (refl, omega arith)
@@ -168,7 +168,7 @@ module _ (frames : Frames) (image : Image) (before : List (List ℕ)) (command :
   bad_fits m (Given got part others) s h = refl
 
   -- a bad hearing
-  bad_turn : (m : Bool) (place : Place) (s : List Heard) → Fine place → Holds place s → count is_bad s ≤ 2 → GoodTurn (reader_hears frames.reader (reader_at m place s) Bad) (card_at m place)
+  bad_turn : (m : Bool) (place : Place) (s : List ReadBlock) → Fine place → Holds place s → count is_bad s ≤ 2 → GoodTurn (reader_hears frames.reader (reader_at m place s) Bad) (card_at m place)
   bad_turn m place s fine holds le =
       ⊎_elim
       (λ h. rw h.0 (m, place, Bad ∷ s, fine, bad_fits m place s holds, omega (arith, h.1), refl, refl))
@@ -176,7 +176,7 @@ module _ (frames : Frames) (image : Image) (before : List (List ℕ)) (command :
       (leb_tells (suc (suc (count is_bad s))) 3)
 
   -- a part of the response comes
-  receives : IsImage image → (m : Bool) (phase : Phase) (s : List Heard) (last : Option Block) (got part : List ℕ) (others : List (List ℕ)) → got ++ (part ++ concat others) ≡ reply.response → AllFit frames.reader (part ∷ others) → GoodTurn (takes frames.reader got (more others) part (record { number = other m; phase = phase; since = s })) (record { number = other m; last = last; taken = []; left = Parts others; log = after })
+  receives : IsImage image → (m : Bool) (phase : Phase) (s : List ReadBlock) (last : Option Block) (got part : List ℕ) (others : List (List ℕ)) → got ++ (part ++ concat others) ≡ reply.response → AllFit frames.reader (part ∷ others) → GoodTurn (takes frames.reader got (more others) part (record { number = other m; phase = phase; since = s })) (record { number = other m; last = last; taken = []; left = Parts others; log = after })
   receives is m phase s last got part [] joins fit =
       let whole : got ++ part ≡ reply.response = ap (λ l. got ++ l) (sym (append-nil part)) ∙ joins in
       let two : 2 ≤ length (got ++ part) = rw whole ((is.responses after).0) in
@@ -187,7 +187,7 @@ module _ (frames : Frames) (image : Image) (before : List (List ℕ)) (command :
       rw (fit_chained frames.reader got part fit.0.1 fit.0.0 most) (other m, Asking last (got ++ part) q qs, [], (append_assoc got part (q ++ concat qs) ∙ joins, fit.1), refl, omega arith, refl, refl)
 
   -- the card's answer
-  good_turn : AreFrames frames → IsImage image → (m : Bool) (place : Place) (s : List Heard) → Fine place → Answers m place s → count is_bad s ≤ 2 → GoodTurn (reader_hears frames.reader (reader_at m place s) (Intact (answer_at m place))) (card_at m place)
+  good_turn : AreFrames frames → IsImage image → (m : Bool) (place : Place) (s : List ReadBlock) → Fine place → Answers m place s → count is_bad s ≤ 2 → GoodTurn (reader_hears frames.reader (reader_at m place s) (Intact (answer_at m place))) (card_at m place)
   good_turn sized is m (Before last sent part left) s fine a le =
       rw (same_false m, a.1) (m, Before last sent part left, Intact (RAck m) ∷ s, fine, (a.0, inl refl), le, refl, refl)
   good_turn sized is m (Between sent part next left) s fine a le =
@@ -202,7 +202,7 @@ module _ (frames : Frames) (image : Image) (before : List (List ℕ)) (command :
       rw (same_true (other m)) (receives is m _ s _ got part others fine.0 fine.1)
 
   -- the card has heard the frame
-  pub record Taken (m : Bool) (place : Place) (s : List Heard) : Type 0 where
+  pub record Taken (m : Bool) (place : Place) (s : List ReadBlock) : Type 0 where
     pub next : Place
     pub fine : Fine next
     pub answers : Answers m next s
@@ -210,15 +210,15 @@ module _ (frames : Frames) (image : Image) (before : List (List ℕ)) (command :
     pub is : card_hears frames.reader image (card_at m place) (question (other m) (phase_at place) s) ≡ record { card = card_at m next; block = Some (answer_at m next) }
 
   -- the card executes the command
-  executed : (m : Bool) (last : Option Block) (sent part : List ℕ) (s : List Heard) → count is_wtx s ≡ 0 → (k : ℕ) → reply.wtx ≡ k → (next : Place) × Fine next × Answers m next s × (phase_at next ≡ Sending part []) × (sends_first (other m) k reply.wtxm pieces after ≡ record { card = card_at m next; block = Some (answer_at m next) })
+  executed : (m : Bool) (last : Option Block) (sent part : List ℕ) (s : List ReadBlock) → count is_wtx s ≡ 0 → (k : ℕ) → reply.wtx ≡ k → (next : Place) × Fine next × Answers m next s × (phase_at next ≡ Sending part []) × (sends_first (other m) k reply.wtxm pieces after ≡ record { card = card_at m next; block = Some (answer_at m next) })
   executed m last sent part s none zero e = (Replied part, tt, tt, refl, refl)
   executed m last sent part s none (suc k) e = (Working part k, tt, omega arith, refl, refl)
 
   -- by what the reader's question is
-  asks : (m : Bool) (place : Place) (s : List Heard) (block : Block) (a : Answer) → question (other m) (phase_at place) s ≡ block → card_hears frames.reader image (card_at m place) block ≡ a → card_hears frames.reader image (card_at m place) (question (other m) (phase_at place) s) ≡ a
+  asks : (m : Bool) (place : Place) (s : List ReadBlock) (block : Block) (a : Answer) → question (other m) (phase_at place) s ≡ block → card_hears frames.reader image (card_at m place) block ≡ a → card_hears frames.reader image (card_at m place) (question (other m) (phase_at place) s) ≡ a
   asks m place s block a e h = ap (λ (b : Block). card_hears frames.reader image (card_at m place) b) e ∙ h
 
-  pub taken : IsImage image → image.is_command command ≡ true → (m : Bool) (place : Place) (s : List Heard) → Fine place → Fits m place s → Taken m place s
+  pub taken : IsImage image → image.is_command command ≡ true → (m : Bool) (place : Place) (s : List ReadBlock) → Fine place → Fits m place s → Taken m place s
   taken is legal m (Before last sent part []) s fine fits =
       let whole : sent ++ part ≡ command = ap (λ l. sent ++ l) (sym (append-nil part)) ∙ fine in
       let most : length (sent ++ part) ≤ 261 = rw whole (is.commands command legal) in
@@ -256,14 +256,14 @@ module _ (frames : Frames) (image : Image) (before : List (List ℕ)) (command :
       record { next = Given got part others; fine = fine; answers = tt; phase = refl; is = asks m (Given got part others) s _ _ fits (rw (same_true (other m)) refl) }
 
   -- the answer of the card, where it has heard the frame
-  came : (m : Bool) (place : Place) (s : List Heard) (up : Bool) → (t : Taken m place s) → GoodTurn (hears_answer up frames (reader_at m t.next s) (record { card = card_at m t.next; block = Some (answer_at m t.next) })) (card_at m t.next) → GoodTurn (hears_answer up frames (reader_at m place s) (goes_down true frames image (card_at m place) (asked (reader_at m place s)))) (goes_down true frames image (card_at m place) (asked (reader_at m place s))).card
+  came : (m : Bool) (place : Place) (s : List ReadBlock) (up : Bool) → (t : Taken m place s) → GoodTurn (hears_answer up frames (reader_at m t.next s) (record { card = card_at m t.next; block = Some (answer_at m t.next) })) (card_at m t.next) → GoodTurn (hears_answer up frames (reader_at m place s) (goes_down true frames image (card_at m place) (asked (reader_at m place s)))) (goes_down true frames image (card_at m place) (asked (reader_at m place s))).card
   came m place s up t g =
       let r : Reader = reader_at m place s in
       let here : GoodTurn (hears_answer up frames r (record { card = card_at m t.next; block = Some (answer_at m t.next) })) (card_at m t.next) = subst (λ (p : Phase). GoodTurn (hears_answer up frames (record { number = other m; phase = p; since = s }) (record { card = card_at m t.next; block = Some (answer_at m t.next) })) (card_at m t.next)) t.phase g in
       subst (λ (a : Answer). GoodTurn (hears_answer up frames r a) a.card) (sym t.is) here
 
   -- one exchange
-  pub exchange : AreFrames frames → IsImage image → image.is_command command ≡ true → (m : Bool) (place : Place) (s : List Heard) → Fine place → Fits m place s → count is_bad s ≤ 2 → (down up : Bool) → GoodTurn (hears_answer up frames (reader_at m place s) (goes_down down frames image (card_at m place) (asked (reader_at m place s)))) (goes_down down frames image (card_at m place) (asked (reader_at m place s))).card
+  pub exchange : AreFrames frames → IsImage image → image.is_command command ≡ true → (m : Bool) (place : Place) (s : List ReadBlock) → Fine place → Fits m place s → count is_bad s ≤ 2 → (down up : Bool) → GoodTurn (hears_answer up frames (reader_at m place s) (goes_down down frames image (card_at m place) (asked (reader_at m place s)))) (goes_down down frames image (card_at m place) (asked (reader_at m place s))).card
   exchange sized is legal m place s fine fits le false true = bad_turn m place s fine (holds_fits m place s fits) le
   exchange sized is legal m place s fine fits le false false = bad_turn m place s fine (holds_fits m place s fits) le
   exchange sized is legal m place s fine fits le true true =
@@ -275,7 +275,7 @@ module _ (frames : Frames) (image : Image) (before : List (List ℕ)) (command :
 
   -- the exchanges that are left
   Rest : List Fate → Type 0
-  Rest fates = (m : Bool) (place : Place) (s : List Heard) → Fine place → Fits m place s → count is_bad s ≤ 2 → ExactlyOnce image before command (run frames image fates (reader_at m place s) (card_at m place))
+  Rest fates = (m : Bool) (place : Place) (s : List ReadBlock) → Fine place → Fits m place s → count is_bad s ≤ 2 → ExactlyOnce image before command (run frames image fates (reader_at m place s) (card_at m place))
 
   then_rest : (fates : List Fate) → Rest fates → (t : Turn) (card : Card) → GoodTurn t card → ExactlyOnce image before command (goes_on (run frames image fates) fates t card)
   unfolding Rest
@@ -330,7 +330,7 @@ module _ (frames : Frames) (image : Image) (before : List (List ℕ)) (command :
   keeps_intact r (Wtx p m) = elim (nat_le (suc (count is_wtx r.since)) 16) as (λ (b : Bool). Keeps (count is_bad r.since) (if b then Asks (kept (Intact (Wtx p m)) r) else Breaks r)) [ true ↦ omega arith | false ↦ tt ]
 
   -- the bad hearings after an exchange
-  pub keeps : IsImage image → image.is_command command ≡ true → (m : Bool) (place : Place) (s : List Heard) → Fine place → Fits m place s → (f : Fate) (n : ℕ) → count is_bad s + losses (f ∷ []) ≤ n → Keeps n (hears_answer f.up frames (reader_at m place s) (goes_down f.down frames image (card_at m place) (asked (reader_at m place s))))
+  pub keeps : IsImage image → image.is_command command ≡ true → (m : Bool) (place : Place) (s : List ReadBlock) → Fine place → Fits m place s → (f : Fate) (n : ℕ) → count is_bad s + losses (f ∷ []) ≤ n → Keeps n (hears_answer f.up frames (reader_at m place s) (goes_down f.down frames image (card_at m place) (asked (reader_at m place s))))
   keeps is legal m place s fine fits f n le = go f.down f.up refl refl
     where
       r : Reader
@@ -360,7 +360,7 @@ module _ (frames : Frames) (image : Image) (before : List (List ℕ)) (command :
 
   -- the exchanges that are left, with few losses
   Few : List Fate → Type 0
-  Few fates = (m : Bool) (place : Place) (s : List Heard) → Fine place → Fits m place s → count is_bad s ≤ 2 → count is_bad s + losses fates ≤ 2 → IsSafe (run frames image fates (reader_at m place s) (card_at m place))
+  Few fates = (m : Bool) (place : Place) (s : List ReadBlock) → Fine place → Fits m place s → count is_bad s ≤ 2 → count is_bad s + losses fates ≤ 2 → IsSafe (run frames image fates (reader_at m place s) (card_at m place))
 
   then_few : (fates : List Fate) → Few fates → (n : ℕ) → n + losses fates ≤ 2 → (t : Turn) (card : Card) → GoodTurn t card → Keeps n t → IsSafe (goes_on (run frames image fates) fates t card)
   unfolding Few

@@ -1,6 +1,6 @@
 -- Few losses, and time: a command is answered.
-use Rattle.ep_base.specs.Link.{End, Open, Done, Spent, Breach, run}
-use Rattle.ep_base.specs.ReaderEnd.{begin}
+use Rattle.ep_base.specs.Link.OneLink.{End, Open, Done, Spent, Breach, run}
+use Rattle.ep_base.specs.Link.ReaderEnd.{begin}
 use Rattle.law_link.specs.Bounds.{IsOver}
 use Rattle.law_link.specs.Once.{IsSafe, IsAnswered, FewLosses}
 use Rattle.law_link.proofs.Exchange.{few_lem}

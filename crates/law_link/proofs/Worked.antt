@@ -1,8 +1,8 @@
 -- Worked exchanges, by computation: whether the definitions say what they mean to say.
 use Rattle.std.proofs.Common.{◌≡◌, ℕ, zero, suc, ◌+◌, true, false, List, [], ◌∷◌, ◌++◌, length, None, refl, replicate}
-use Rattle.ep_base.specs.ReaderEnd.{Reader, Idle, begin}
-use Rattle.ep_base.specs.CardEnd.{Image, Card, Parts}
-use Rattle.ep_base.specs.Link.{Frames, Fate, End, Open, Done, Spent, Breach, run}
+use Rattle.ep_base.specs.Link.ReaderEnd.{Reader, Idle, begin}
+use Rattle.ep_base.specs.Link.CardEnd.{Image, Card, Parts}
+use Rattle.ep_base.specs.Link.OneLink.{Frames, Fate, End, Open, Done, Spent, Breach, run}
 
 pass : Fate
 pass = record { down = true; up = true }

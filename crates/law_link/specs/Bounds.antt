@@ -1,12 +1,12 @@
 -- How long a command takes, whatever the reader hears.
 use Rattle.std.specs.Prelude.{◌≡◌, ℕ, ◌+◌, ◌*◌, ◌≤◌, Bool, List, [], ◌∷◌, length, if◌then◌else◌}
-use Rattle.ep_base.specs.Block.{Heard, is_bad, same, count}
-use Rattle.ep_base.specs.ReaderEnd.{Reader, Turn, Asks, Gives, Spends, Breaks, reader_hears, begin}
-use Rattle.ep_base.specs.CardEnd.{Image, Card}
-use Rattle.ep_base.specs.Link.{Frames, Fate, End, Open, Done, Spent, Breach, run}
+use Rattle.ep_base.specs.Link.Block.{ReadBlock, is_bad, same, count}
+use Rattle.ep_base.specs.Link.ReaderEnd.{Reader, Turn, Asks, Gives, Spends, Breaks, reader_hears, begin}
+use Rattle.ep_base.specs.Link.CardEnd.{Image, Card}
+use Rattle.ep_base.specs.Link.OneLink.{Frames, Fate, End, Open, Done, Spent, Breach, run}
 
 -- The reader after these hearings, until a command ends.
-abbrev pub after_all : ℕ → List Heard → Turn → Turn
+abbrev pub after_all : ℕ → List ReadBlock → Turn → Turn
 after_all frame [] t = t
 after_all frame (h ∷ hs) (Asks r) = after_all frame hs (reader_hears frame r h)
 after_all frame (h ∷ hs) (Gives response r) = Gives response r
@@ -34,12 +34,12 @@ IsOver (Breach r card) = Unit {0}
 
 -- Whatever is heard, at most 21 exchanges lie between two toggles.
 abbrev pub BoundedToggles : Type 0
-BoundedToggles = (card_frame frame : ℕ) (command : List ℕ) (r : Reader) (hearings : List Heard) → r.since ≡ [] →
+BoundedToggles = (card_frame frame : ℕ) (command : List ℕ) (r : Reader) (hearings : List ReadBlock) → r.since ≡ [] →
     IsBounded (after_all frame hearings (Asks (begin card_frame command r)))
 
 -- And a command ends.
 abbrev pub CommandEnds : Type 0
-CommandEnds = (card_frame frame : ℕ) (command : List ℕ) (r : Reader) (hearings : List Heard) → r.since ≡ [] →
+CommandEnds = (card_frame frame : ℕ) (command : List ℕ) (r : Reader) (hearings : List ReadBlock) → r.since ≡ [] →
     16 ≤ card_frame → length command ≤ 261 → 279 * 21 ≤ length hearings →
     IsEnded (after_all frame hearings (Asks (begin card_frame command r)))
 
@@ -60,7 +60,7 @@ toggle old (Spends r) = 0
 toggle old (Breaks r) = 0
 
 -- How often the reader toggles over these hearings, until a command ends.
-abbrev pub toggles_in : ℕ → List Heard → Turn → ℕ
+abbrev pub toggles_in : ℕ → List ReadBlock → Turn → ℕ
 toggles_in frame [] t = 0
 toggles_in frame (h ∷ hs) (Asks r) = toggle r (reader_hears frame r h) + toggles_in frame hs (reader_hears frame r h)
 toggles_in frame (h ∷ hs) (Gives response r) = 0
@@ -69,6 +69,6 @@ toggles_in frame (h ∷ hs) (Breaks r) = 0
 
 -- A command takes at most 279 toggles.
 abbrev pub FewToggles : Type 0
-FewToggles = (card_frame frame : ℕ) (command : List ℕ) (r : Reader) (hearings : List Heard) → r.since ≡ [] →
+FewToggles = (card_frame frame : ℕ) (command : List ℕ) (r : Reader) (hearings : List ReadBlock) → r.since ≡ [] →
     16 ≤ card_frame → length command ≤ 261 →
     toggles_in frame hearings (Asks (begin card_frame command r)) ≤ 279

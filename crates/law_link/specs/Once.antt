@@ -1,9 +1,9 @@
 -- Exactly once over one link.
 use Rattle.std.specs.Prelude.{◌≡◌, ◌⊎◌, ℕ, suc, ◌*◌, ◌≤◌, Bool, true, not, cond, if◌then◌else◌, List, [], ◌∷◌, ◌++◌, length}
-use Rattle.ep_base.specs.Block.{other, is_bad, count}
-use Rattle.ep_base.specs.ReaderEnd.{Reader, Idle, begin}
-use Rattle.ep_base.specs.CardEnd.{Image, Card, Parts}
-use Rattle.ep_base.specs.Link.{Frames, Fate, End, Open, Done, Spent, Breach, run}
+use Rattle.ep_base.specs.Link.Block.{other, is_bad, count}
+use Rattle.ep_base.specs.Link.ReaderEnd.{Reader, Idle, begin}
+use Rattle.ep_base.specs.Link.CardEnd.{Image, Card, Parts}
+use Rattle.ep_base.specs.Link.OneLink.{Frames, Fate, End, Open, Done, Spent, Breach, run}
 
 -- An image's commands have at most 261 bytes, its responses 2 to 258, and at most eight S(WTX) come before one.
 pub record IsImage (image : Image) : Type 0 where

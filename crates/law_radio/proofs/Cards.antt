@@ -2,17 +2,17 @@
 use Rattle.std.proofs.Common.{◌≡◌, ◌≢◌, ℕ, zero, suc, Bool, true, List, [], ◌∷◌, ◌++◌, refl, sym, ap, ◌∙◌, subst}
 use Rattle.std.proofs.lemmas.Bool.{and_parts}
 use Rattle.ep_base.specs.declared.air.CardKind.{CardKind}
-use Rattle.ep_base.specs.Hearing.{Activated, RoundEnd, Empty, Collision, Unsupported, Broken, Found}
-use Rattle.ep_base.specs.CardAnswer.{Image, deselected}
-use Rattle.ep_base.specs.Images.{stored}
-use Rattle.ep_base.specs.Direct.{image_rules}
-use Rattle.ep_base.specs.Perfect.{Channel, presents}
-use Rattle.ep_base.specs.Field.{Outside, OfA, OfB, outside_reset, Placed}
+use Rattle.ep_base.specs.Air.Heard.{Activated, RoundEnd, Empty, Collision, Unsupported, Broken, Found}
+use Rattle.ep_base.specs.Cards.CardAnswer.{Image, deselected}
+use Rattle.ep_base.specs.Cards.Images.{stored}
+use Rattle.ep_base.specs.Cards.Direct.{image_rules}
+use Rattle.ep_rules.specs.EntryPoint.Perfect.{Channel, presents}
+use Rattle.ep_base.specs.Cards.Field.{Outside, OfA, OfB, outside_reset, Placed}
 use Rattle.law_round.specs.Inside.{is_out}
-use Rattle.law_round.specs.Lawful.{kind_of, id_of, names, Face, faces, reset_faces}
+use Rattle.ep_base.specs.Cards.Lawful.{kind_of, id_of, names, Face, faces, reset_faces}
 use Rattle.law_round.specs.Acting.{linked_at, party_at, without}
 use Rattle.law_radio.proofs.Stored.{stored_at, stored_other}
-use Rattle.law_radio.specs.OverRadio.{numbers, IsOther, AreDistinct, AreNumbered, HaveImages}
+use Rattle.ep_base.specs.Cards.Numbers.{numbers, IsOther, AreDistinct, AreNumbered, HaveImages}
 
 -- ---- the first of a list, and the others
 

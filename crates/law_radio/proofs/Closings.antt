@@ -4,16 +4,16 @@ use Rattle.std.specs.Prelude.{if◌then◌else◌}
 use Rattle.ep_base.specs.declared.outcome.OutcomeKind.{OutcomeKind}
 use Rattle.ep_base.specs.declared.outcome.OutcomeKind.TheVariants.{SelectNext, TryAgain, Approved, Declined, OnlineRequest, TryAnother, EndApplication}
 use Rattle.ep_base.specs.declared.outcome.Message.{Message}
-use Rattle.ep_base.specs.Apdu.{is_9000}
-use Rattle.ep_base.specs.PreProcessing.{Ready, any_allowed}
-use Rattle.ep_base.specs.Directory.{directory}
-use Rattle.ep_base.specs.Candidates.{Candidate, candidates}
-use Rattle.ep_base.specs.Hearing.{Activated, RoundEnd, Empty, Collision, Unsupported, Broken, Found}
-use Rattle.ep_base.specs.Said.{Verdict, Given}
-use Rattle.ep_base.specs.Kernel.{Move, Send, Done, KernelSteps}
-use Rattle.ep_base.specs.Talk.{Talk, is_found, say_collision, by_end, rounds}
-use Rattle.ep_base.specs.EntryPoint.{start_b, say_message, after_kind, after_verdict, after_move, kernel_runs, activates, given_to, selects, presented, starts, say_ready}
-use Rattle.law_radio.specs.Closings.{ClosesFound, TransactionCloses}
+use Rattle.ep_base.specs.Cards.Apdu.{is_9000}
+use Rattle.ep_rules.specs.EntryPoint.PreProcessing.{Ready, any_allowed}
+use Rattle.ep_base.specs.Objects.Directory.{directory}
+use Rattle.ep_rules.specs.EntryPoint.Candidates.{Candidate, candidates}
+use Rattle.ep_base.specs.Air.Heard.{Activated, RoundEnd, Empty, Collision, Unsupported, Broken, Found}
+use Rattle.ep_rules.specs.EntryPoint.Event.{Verdict, Activation}
+use Rattle.ep_rules.specs.EntryPoint.Kernel.{KernelStep, Send, Done, KernelSteps}
+use Rattle.ep_rules.specs.EntryPoint.Talk.{Talk, is_found, say_collision, by_end, rounds}
+use Rattle.ep_rules.specs.EntryPoint.Transaction.{start_b, say_message, after_kind, after_verdict, after_move, kernel_runs, activates, given_to, selects, presented, starts, say_ready}
+use Rattle.ep_claim.specs.Promise.Closings.{ClosesFound, TransactionCloses}
 
 module _ (message : Message) (next : Activated → Talk) (closes : (card : Activated) → ClosesFound true (next card)) where
   collision_closes : (collided : Bool) (t : Talk) → ClosesFound false t → ClosesFound false (say_collision collided message t)
@@ -57,7 +57,7 @@ module _ {S : Type 0} (k : KernelSteps S) where
   verdict_closes again more a m v s = message_closes true v.message (after_kind again more v.kind s) (kind_closes again more a m v.kind s)
 
   module _ (next : Verdict → S → Talk) (closes : (v : Verdict) → AllClose true (next v)) where
-    move_closes : (more : S → Option (List ℕ) → Talk) → ((s : S) (last : Option (List ℕ)) → ClosesFound true (more s last)) → (m : Move) (s : S) → ClosesFound true (after_move next more (m, s))
+    move_closes : (more : S → Option (List ℕ) → Talk) → ((s : S) (last : Option (List ℕ)) → ClosesFound true (more s last)) → (m : KernelStep) (s : S) → ClosesFound true (after_move next more (m, s))
     move_closes more x (Send command) s = λ r. x s (Some r)
     move_closes more x (Done verdict) s = closes verdict s
 
@@ -65,7 +65,7 @@ module _ {S : Type 0} (k : KernelSteps S) where
     runs_close zero s last = tt
     runs_close (suc n) s last = move_closes (kernel_runs k next n) (runs_close n) (k.step s last).0 (k.step s last).1
 
-    activates_closes : (g : Given) (s : S) → ClosesFound true (activates k next g s)
+    activates_closes : (g : Activation) (s : S) → ClosesFound true (activates k next g s)
     activates_closes g s = runs_close (k.commands (k.begin s g) + 1) (k.begin s g) None
 
   selects_closes : (again : S → Talk) → AllClose false again → (cs : List Candidate) → AllClose true (selects k again cs)

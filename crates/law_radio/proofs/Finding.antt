@@ -7,13 +7,13 @@ use Rattle.std.proofs.lemmas.Bool.Decides.{eqb_tells}
 use Rattle.std.proofs.lemmas.Slice.Eq.{bytes_eq-Decides}
 use Rattle.ep_base.specs.declared.air.CardKind.{CardKind}
 use Rattle.ep_base.specs.declared.air.CardKind.TheVariants as kinds
-use Rattle.ep_base.specs.Hearing.{Activated, same_kind}
-use Rattle.ep_base.specs.CardAnswer.{Image}
-use Rattle.ep_base.specs.Field.{Placed}
-use Rattle.law_round.specs.Lawful.{kind_of, id_of, names, IsApart, AreApart}
+use Rattle.ep_base.specs.Air.Heard.{Activated, same_kind}
+use Rattle.ep_base.specs.Cards.CardAnswer.{Image}
+use Rattle.ep_base.specs.Cards.Field.{Placed}
+use Rattle.ep_base.specs.Cards.Lawful.{kind_of, id_of, names, IsApart, AreApart}
 use Rattle.law_round.proofs.Lawfulness.{begins_lawful_law}
-use Rattle.law_radio.specs.OverRadio.{numbers, IsOther, AreDistinct, AreNumbered, HaveImages}
-use Rattle.law_radio.specs.Opening.{is_card, number_in, image_in, NewFieldIsNew}
+use Rattle.ep_base.specs.Cards.Numbers.{numbers, IsOther, AreDistinct, AreNumbered, HaveImages}
+use Rattle.ep_claim.specs.Promise.Cards.{is_card, number_in, image_in, NewFieldIsNew}
 
 kind_is : (a b : CardKind) → same_kind a b ≡ true → a ≡ b
 kind_is kinds.A kinds.A e = refl

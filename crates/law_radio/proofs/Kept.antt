@@ -1,12 +1,12 @@
 -- Each step of a talk adds the same to what was heard and executed as to the perfect run.
 use Rattle.std.proofs.Common.{◌≡◌, inl, inr, ℕ, suc, List, ◌∷◌, refl, sym, ap, ◌∙◌, append-nil}
-use Rattle.ep_base.specs.Hearing.{RoundEnd}
-use Rattle.ep_base.specs.Said.{Told, Said, Tells, Apdu}
-use Rattle.ep_base.specs.Talk.{Talk, Say, Poll, Command, Close, Result, Round, Response, Closed, Nothing, so_far}
-use Rattle.ep_base.specs.TransportRun.{HearEnd, Whole, AtLink, AtBreach, AtDevice, said_for}
-use Rattle.ep_base.specs.Perfect.{Perfect, gave, executes}
-use Rattle.ep_base.specs.Field.{Field}
-use Rattle.law_radio.specs.OverRadio.{EndsInLink, Keeps}
+use Rattle.ep_base.specs.Air.Heard.{RoundEnd}
+use Rattle.ep_rules.specs.EntryPoint.Event.{Told, Said, Tells, Apdu}
+use Rattle.ep_rules.specs.EntryPoint.Talk.{Talk, Say, Poll, Command, Close, Result, Round, Response, Closed, Nothing, so_far}
+use Rattle.ep_rules.specs.EntryPoint.TransportRun.{HearEnd, Whole, AtLink, AtBreach, AtDevice, said_for}
+use Rattle.ep_rules.specs.EntryPoint.Perfect.{Perfect, gave, executes}
+use Rattle.ep_base.specs.Cards.Field.{Field}
+use Rattle.ep_claim.specs.Promise.Perfection.{EndsInLink, Keeps}
 
 -- Heard to the end: the perfect run has the same results.
 pub record Same (talk : Talk) (heard : List Result) (log : List (ℕ × List ℕ)) (p : Perfect) : Type 0 where

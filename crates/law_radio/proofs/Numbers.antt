@@ -1,7 +1,7 @@
 -- A card's image keeps its number.
 use Rattle.std.proofs.Common.{◌≡◌, ℕ, cond, true, false, List, refl, Option, Some, None, slice_get, position}
-use Rattle.ep_base.specs.Apdu.{same_bytes, command_data, ppse_name}
-use Rattle.ep_base.specs.CardAnswer.{Answered, App, Image, by_app, by_place, select_answer, ppse_answer, in_app, other_answer, is_select, card_answer}
+use Rattle.ep_base.specs.Cards.Apdu.{same_bytes, command_data, ppse_name}
+use Rattle.ep_base.specs.Cards.CardAnswer.{Answered, App, Image, by_app, by_place, select_answer, ppse_answer, in_app, other_answer, is_select, card_answer}
 
 abbrev Same : Image → Answered × Image → Type 0
 Same i a = a.1.number ≡ i.number

@@ -2,17 +2,17 @@
 use Rattle.std.proofs.Common.{◌≡◌, ℕ, zero, suc, ◌+◌, ◌<◌, true, false, List, [], ◌∷◌, ◌++◌, length, Some, refl, sym, ap, ◌∙◌, subst, arith}
 use Rattle.std.proofs.lemmas.Bool.{and_parts}
 use Rattle.ep_base.specs.declared.air.CardKind.{CardKind}
-use Rattle.ep_base.specs.Hearing.{Activated, RoundEnd, Found}
-use Rattle.ep_base.specs.CardEnd.{Card, is_halted}
-use Rattle.ep_base.specs.Dialogue.{opened}
-use Rattle.ep_base.specs.LinkFrames.{LinkSetting}
-use Rattle.ep_base.specs.Medium.{told}
-use Rattle.ep_base.specs.Polling.{Came, PlaysRounds}
-use Rattle.ep_base.specs.Carry.{AtRest, OfLink}
-use Rattle.ep_base.specs.Field.{Placed, Field, field}
-use Rattle.ep_base.specs.Radio.{setting_of}
+use Rattle.ep_base.specs.Air.Heard.{Activated, RoundEnd, Found}
+use Rattle.ep_base.specs.Link.CardEnd.{Card, is_halted}
+use Rattle.ep_base.specs.Link.Dialogue.{opened}
+use Rattle.ep_base.specs.Link.LinkFrames.{LinkSetting}
+use Rattle.ep_base.specs.Air.Medium.{told}
+use Rattle.ep_base.specs.Poll.Polling.{Came, PlaysRounds}
+use Rattle.ep_base.specs.Link.Carry.{AtRest, OfLink}
+use Rattle.ep_base.specs.Cards.Field.{Placed, Field, field}
+use Rattle.ep_base.specs.Poll.Radio.{setting_of}
 use Rattle.law_round.specs.Inside.{is_out, all_out}
-use Rattle.law_round.specs.Lawful.{kind_of, id_of, Lawful, faces, reset_faces}
+use Rattle.ep_base.specs.Cards.Lawful.{kind_of, id_of, Lawful, faces, reset_faces}
 use Rattle.law_round.specs.Linked as linked
 use Rattle.law_round.specs.Polled.{SameCards}
 use Rattle.law_round.specs.Acting.{is_link, linked_at, are_passages, is_open, party_at, shown}

@@ -1,7 +1,7 @@
 -- The transaction of Entry Point is a talk that a log carries.
 use Rattle.std.proofs.Common.{length}
-use Rattle.ep_base.specs.Kernel.{KernelSteps}
-use Rattle.law_run.specs.Bounds.{log_bound}
+use Rattle.ep_rules.specs.EntryPoint.Kernel.{KernelSteps}
+use Rattle.ep_rules.specs.EntryPoint.Bounds.{log_bound}
 use Rattle.law_run.proofs.Bounding.{few_commands_lem}
 use Rattle.law_run.proofs.Legal.{legal_lem}
 use Rattle.law_radio.specs.Purchases.{TransactionIsCarried}

@@ -1,7 +1,7 @@
 -- The image of one card is changed, and those of the others stay.
 use Rattle.std.proofs.Common.{◌≡◌, ◌≢◌, ℕ, refl, ⊎_elim}
 use Rattle.std.proofs.lemmas.Bool.Decides.{eqb_tells}
-use Rattle.ep_base.specs.Images.{stored}
+use Rattle.ep_base.specs.Cards.Images.{stored}
 
 module _ {A : Type 0} (n : ℕ) where
   pub stored_at : (x : A) (f : ℕ → A) → stored n x f n ≡ x

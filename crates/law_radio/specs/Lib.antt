@@ -1,4 +1,1 @@
-pub mod Closings
-pub mod Opening
-pub mod OverRadio
 pub mod Purchases

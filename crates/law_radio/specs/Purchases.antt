@@ -1,12 +1,12 @@
 -- The transaction of Entry Point as a talk that a log carries (this project's own).
 use Rattle.std.specs.Prelude.{ℕ, ◌<◌, List, length}
-use Rattle.ep_base.specs.PreProcessing.{Ready}
-use Rattle.ep_base.specs.Kernel.{KernelSteps}
-use Rattle.ep_base.specs.KernelCounts.{FallingCounts}
-use Rattle.ep_base.specs.KernelCommands.{SendsCommands}
-use Rattle.ep_base.specs.EntryPoint.{transaction}
-use Rattle.law_run.specs.Bounds.{log_bound}
-use Rattle.law_radio.specs.OverRadio.{IsCarried}
+use Rattle.ep_rules.specs.EntryPoint.PreProcessing.{Ready}
+use Rattle.ep_rules.specs.EntryPoint.Kernel.{KernelSteps}
+use Rattle.ep_rules.specs.EntryPoint.KernelCounts.{FallingCounts}
+use Rattle.ep_rules.specs.EntryPoint.KernelCommands.{SendsCommands}
+use Rattle.ep_rules.specs.EntryPoint.Transaction.{transaction}
+use Rattle.ep_rules.specs.EntryPoint.Bounds.{log_bound}
+use Rattle.ep_claim.specs.Promise.Perfection.{IsCarried}
 
 -- A transaction with kernels that send commands alone, and whose counts fall, is carried by a log with room for one record more than its bound
 -- (this project's own).

@@ -5,9 +5,9 @@
 //! keeps to.
 #![tactic(auto)]
 
-ghost use Rattle.ep_base.specs.Kernel.{KernelSteps};
-ghost use Rattle.law_radio.specs.Closings.{TransactionCloses};
-ghost use Rattle.law_radio.specs.Opening.{NewFieldIsNew};
+ghost use Rattle.ep_rules.specs.EntryPoint.Kernel.{KernelSteps};
+ghost use Rattle.ep_claim.specs.Promise.Closings.{TransactionCloses};
+ghost use Rattle.ep_claim.specs.Promise.Cards.{NewFieldIsNew};
 ghost use Rattle.law_radio.specs.Purchases.{TransactionIsCarried};
 
 /// A field that was just opened with a document's cards is as the laws of lanes want it, with the numbers and the images

@@ -5,20 +5,20 @@ use Rattle.std.proofs.lemmas.Bool.{and_parts}
 use Rattle.ep_base.specs.declared.air.CardKind.{CardKind}
 use Rattle.ep_base.specs.declared.air.CardKind.TheVariants as kinds
 use Rattle.ep_base.specs.declared.air.Wave.{Wave}
-use Rattle.ep_base.specs.Frame.{sealed, opened}
-use Rattle.ep_base.specs.Hearing.{Framed, Hearing, same_kind, same_wave, wave_of_kind, CardReply, Passes}
-use Rattle.ep_base.specs.TypeA.{Idle, Ready, Active, Protocol, Halted}
-use Rattle.ep_base.specs.TypeB.{BIdle, BReady, BProtocol}
-use Rattle.ep_base.specs.Block.{Block, same}
-use Rattle.ep_base.specs.Spelling.{spelled}
-use Rattle.ep_base.specs.CardEnd.{is_halted}
-use Rattle.ep_base.specs.LinkFrames.{LinkSetting}
-use Rattle.ep_base.specs.Air.{Leg, Bursts, Leaves, IsLeg, Passage, ArePassages, next_fate, fates_after, gone_by}
-use Rattle.ep_base.specs.Air as legs
-use Rattle.ep_base.specs.Wire.{Party, Heeded, unmoved, takes_opened, takes_frame, takes_down, aired, comes_down, comes_back, Wire, moved, wire_heeds, wire_send}
-use Rattle.ep_base.specs.Field.{Outside, OfA, OfB, outside_after, outside_reply, outside_halted, outside_reset, Placed, Told, untouched, by_link, by_reply, hears_frame, one_hears, Heard, maybe_answer, and_then, all_hear, joined, left_by, leaves, away, Field, all_take, field_hears, field_after, field_send}
+use Rattle.ep_base.specs.Air.Frame.{sealed, opened}
+use Rattle.ep_base.specs.Air.Heard.{Sent, Heard, same_kind, same_wave, wave_of_kind, CardHear, Passes}
+use Rattle.ep_base.specs.Cards.TypeA.{Idle, Ready, Active, Protocol, Halted}
+use Rattle.ep_base.specs.Cards.TypeB.{BIdle, BReady, BProtocol}
+use Rattle.ep_base.specs.Link.Block.{Block, same}
+use Rattle.ep_base.specs.Link.Spelling.{spelled}
+use Rattle.ep_base.specs.Link.CardEnd.{is_halted}
+use Rattle.ep_base.specs.Link.LinkFrames.{LinkSetting}
+use Rattle.ep_base.specs.Air.Fates.{Way, Bursts, Leaves, IsLeg, Fate, ArePassages, next_fate, fates_after, gone_by}
+use Rattle.ep_base.specs.Air.Fates as legs
+use Rattle.ep_base.specs.Link.Wire.{Party, Heeded, unmoved, takes_opened, takes_frame, takes_down, aired, comes_down, comes_back, Wire, moved, wire_heeds, wire_send}
+use Rattle.ep_base.specs.Cards.Field.{Outside, OfA, OfB, outside_after, outside_reply, outside_halted, outside_reset, Placed, Told, untouched, by_link, by_reply, hears_frame, one_hears, CardsHeard, maybe_answer, and_then, all_hear, joined, left_by, leaves, away, Field, all_take, field_hears, field_after, field_send}
 use Rattle.law_round.specs.Inside.{is_inside, is_out, all_out}
-use Rattle.law_round.specs.Lawful.{kind_of, names, faces}
+use Rattle.ep_base.specs.Cards.Lawful.{kind_of, names, faces}
 use Rattle.law_round.specs.Acting.{is_leg, are_passages, is_link, linked_at, is_open, party_at, without, shown, OthersStay, FieldActs}
 use Rattle.law_round.proofs.Presenting.{either}
 use Rattle.law_round.proofs.Lawfulness.{frame_keeps, names_send}
@@ -47,27 +47,27 @@ kind_itself : (a : CardKind) → same_kind a a ≡ true
 kind_itself kinds.A = refl
 kind_itself kinds.B = refl
 
-pub leg_is : (l : Leg) → is_leg l ≡ true → IsLeg l
+pub leg_is : (l : Way) → is_leg l ≡ true → IsLeg l
 leg_is legs.Passes e = tt
 leg_is legs.Loses e = tt
 leg_is (Bursts start mask) e = leb-true _ _ e
 leg_is Leaves e = tt
 
-leg_truth : (l : Leg) → IsLeg l → is_leg l ≡ true
+leg_truth : (l : Way) → IsLeg l → is_leg l ≡ true
 leg_truth legs.Passes e = refl
 leg_truth legs.Loses e = refl
 leg_truth (Bursts start mask) e = le-leb _ _ e
 leg_truth Leaves e = refl
 
-pub passages_truth : (fates : List Passage) → ArePassages fates → are_passages fates ≡ true
+pub passages_truth : (fates : List Fate) → ArePassages fates → are_passages fates ≡ true
 passages_truth [] e = refl
 passages_truth (f ∷ fates) e = rw (leg_truth f.down e.0, leg_truth f.up e.1, passages_truth fates e.2) refl
 
-pub next_down : (fates : List Passage) → are_passages fates ≡ true → IsLeg (next_fate fates).down
+pub next_down : (fates : List Fate) → are_passages fates ≡ true → IsLeg (next_fate fates).down
 next_down [] e = tt
 next_down (f ∷ fates) e = leg_is f.down (and_parts (is_leg f.down) (is_leg f.up && are_passages fates) e).0
 
-next_passages : (fates : List Passage) → are_passages fates ≡ true → are_passages (fates_after fates) ≡ true
+next_passages : (fates : List Fate) → are_passages fates ≡ true → are_passages (fates_after fates) ≡ true
 next_passages [] e = refl
 next_passages (f ∷ fates) e = (and_parts (is_leg f.up) (are_passages fates) (and_parts (is_leg f.down) (is_leg f.up && are_passages fates) e).1).1
 
@@ -164,7 +164,7 @@ module _ (kind : CardKind) (gone : Bool) (bytes : List ℕ) (block : IsBlock (op
       let passes = passes_a kind bytes p.outside inside l.outside in
       let h = takes_frame p.party (wave_of_kind kind) bytes in
       let keeps = frame_keeps p.party (wave_of_kind kind) bytes in
-      subst (λ (r : CardReply). Acts kind gone (by_reply p (outside_after (wave_of_kind kind) bytes p.outside) (wave_of_kind kind) bytes r) h) (sym passes)
+      subst (λ (r : CardHear). Acts kind gone (by_reply p (outside_after (wave_of_kind kind) bytes p.outside) (wave_of_kind kind) bytes r) h) (sym passes)
       (link_acts kind gone p h l inside keeps.kind)
 
   by_free : (p : Placed) (free : Bool) → Link kind gone p
@@ -180,7 +180,7 @@ module _ (kind : CardKind) (gone : Bool) (bytes : List ℕ) (block : IsBlock (op
 
   -- ---- all cards
 
-  record AllAct (n : ℕ) (before : List (ℕ × List ℕ)) (ps : List Placed) (h : Heard) (e : Heeded) : Type 0 where
+  record AllAct (n : ℕ) (before : List (ℕ × List ℕ)) (ps : List Placed) (h : CardsHeard) (e : Heeded) : Type 0 where
     party : party_at n h.cards ≡ e.party
     log : h.log ≡ before ++ e.executed
     answers : h.answers ≡ maybe_answer e.answer []
@@ -206,13 +206,13 @@ module _ (kind : CardKind) (gone : Bool) (bytes : List ℕ) (block : IsBlock (op
       let parts = and_parts (is_link kind gone p) (all_out ps) l in
       let t = one_hears room (wave_of_kind kind) bytes log p in
       let e = (if not gone && nat_lt (length log) room then takes_frame p.party (wave_of_kind kind) bytes else unmoved p.party) in
-      subst (λ (h : Heard). AllAct zero log (p ∷ ps) (and_then t h) e) (sym (all_keep kind bytes room (log ++ t.executed) ps block parts.1))
+      subst (λ (h : CardsHeard). AllAct zero log (p ∷ ps) (and_then t h) e) (sym (all_keep kind bytes room (log ++ t.executed) ps block parts.1))
       (first_acts log p ps t e (one_acts room log p (to_link kind gone p parts.0)) parts.1)
   all_act (suc n) room log (p ∷ ps) l =
       let parts = and_parts (is_out p.outside) (linked_at kind gone n ps) l in
       let x = all_act n room log ps parts.1 in
       let e = (if not gone && nat_lt (length log) room then takes_frame (party_at n ps) (wave_of_kind kind) bytes else unmoved (party_at n ps)) in
-      subst (λ (h : Heard). AllAct (suc n) log (p ∷ ps) h e) (sym (skips room (wave_of_kind kind) bytes log p ps (block_keeps kind bytes room log p block parts.0)))
+      subst (λ (h : CardsHeard). AllAct (suc n) log (p ∷ ps) h e) (sym (skips room (wave_of_kind kind) bytes log p ps (block_keeps kind bytes room log p block parts.0)))
       (record { party = x.party; log = x.log; answers = x.answers; linked = rw (parts.0, x.linked) refl; others = ap (λ l. p ∷ l) x.others })
 
 -- ---- one exchange
@@ -245,7 +245,7 @@ party_after : (n : ℕ) (gone : Bool) (ps : List Placed) → party_at n (if gone
 party_after n true ps = left_party n ps
 party_after n false ps = refl
 
-linked_after : (kind : CardKind) (gone : Bool) (n : ℕ) (d u : Leg) (ps : List Placed) → linked_at kind gone n ps ≡ true
+linked_after : (kind : CardKind) (gone : Bool) (n : ℕ) (d u : Way) (ps : List Placed) → linked_at kind gone n ps ≡ true
     → linked_at kind (gone_by (gone_by gone d) u) n (if leaves d || leaves u then left_by ps else ps) ≡ true
 linked_after kind true n d u ps l = either (λ qs. linked_at kind true n qs ≡ true) (leaves d || leaves u) (left_by ps) ps (left_linked kind true n ps l) l
 linked_after kind false n Leaves u ps l = left_linked kind false n ps l
@@ -271,7 +271,7 @@ others_after : (n : ℕ) (gone : Bool) (ps : List Placed) → faces (without n (
 others_after n true ps = left_others n ps
 others_after n false ps = refl
 
-one_aired : (a : Option Framed) → joined (maybe_answer a []) ≡ aired a
+one_aired : (a : Option Sent) → joined (maybe_answer a []) ≡ aired a
 one_aired None = refl
 one_aired (Some f) = refl
 
@@ -337,7 +337,7 @@ module _ (set : LinkSetting) (n : ℕ) (b : Block) (f : Field) (good : is_open s
   abbrev heeded : Heeded
   heeded = wire_heeds (shown n f) wave frame
 
-  abbrev cards_heard : Heard
+  abbrev cards_heard : CardsHeard
   cards_heard = field_hears f wave frame
 
   same_heard : comes_back (next_fate f.air.fates).up (aired heeded.answer) ≡ comes_back (next_fate f.air.fates).up (joined cards_heard.answers)
@@ -370,13 +370,13 @@ module _ (set : LinkSetting) (n : ℕ) (b : Block) (f : Field) (good : is_open s
 pub others_stay_law : OthersStay
 others_stay_law set n b heard s t good sends =
     let e : field_send s (wave_of_kind set.kind) (sealed (wave_of_kind set.kind) (spelled b)) ≡ (heard, t) = sends in (
-      subst (λ (x : Option Hearing × Field). faces (without n x.1.cards) ≡ faces (without n s.cards)) e (others_same set n b s good),
-      subst (λ (x : Option Hearing × Field). names x.1.cards ≡ names s.cards) e (names_send s (wave_of_kind set.kind) (sealed (wave_of_kind set.kind) (spelled b))),
+      subst (λ (x : Option Heard × Field). faces (without n x.1.cards) ≡ faces (without n s.cards)) e (others_same set n b s good),
+      subst (λ (x : Option Heard × Field). names x.1.cards ≡ names s.cards) e (names_send s (wave_of_kind set.kind) (sealed (wave_of_kind set.kind) (spelled b))),
     )
 
 pub field_acts_law : FieldActs
 field_acts_law set n s b heard t good sends =
     let e : field_send s (wave_of_kind set.kind) (sealed (wave_of_kind set.kind) (spelled b)) ≡ (heard, t) = sends in (
-      acts_same set n b s good ∙ ap (λ (x : Option Hearing × Field). (x.0, shown n x.1)) e,
-      subst (λ (x : Option Hearing × Field). is_open set.kind n x.1 ≡ true) e (stays_good set n b s good),
+      acts_same set n b s good ∙ ap (λ (x : Option Heard × Field). (x.0, shown n x.1)) e,
+      subst (λ (x : Option Heard × Field). is_open set.kind n x.1 ≡ true) e (stays_good set n b s good),
     )

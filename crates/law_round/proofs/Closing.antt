@@ -1,18 +1,18 @@
 -- S(DESELECT) executes nothing.
 use Rattle.std.proofs.Common.{◌≡◌, ◌&&◌, true, List, [], ◌∷◌, Option, sym, ap, ◌∙◌}
 use Rattle.std.proofs.lemmas.Bool.{and_parts}
-use Rattle.ep_base.specs.Frame.{sealed}
-use Rattle.ep_base.specs.Hearing.{Hearing, wave_of_kind}
-use Rattle.ep_base.specs.Block.{Deselect}
-use Rattle.ep_base.specs.Spelling.{spelled}
-use Rattle.ep_base.specs.Air.{Passage, ArePassages}
-use Rattle.ep_base.specs.Wire.{Wire, wire_send}
+use Rattle.ep_base.specs.Air.Frame.{sealed}
+use Rattle.ep_base.specs.Air.Heard.{Heard, wave_of_kind}
+use Rattle.ep_base.specs.Link.Block.{Deselect}
+use Rattle.ep_base.specs.Link.Spelling.{spelled}
+use Rattle.ep_base.specs.Air.Fates.{Fate, ArePassages}
+use Rattle.ep_base.specs.Link.Wire.{Wire, wire_send}
 use Rattle.law_wire.proofs.Passing.{closes_quietly}
 use Rattle.law_round.specs.Acting.{is_leg, linked_at, are_passages, shown}
 use Rattle.law_round.specs.Once.{ClosesQuietly}
 use Rattle.law_round.proofs.Acting.{leg_is, field_acts_law}
 
-passages_are : (fates : List Passage) → are_passages fates ≡ true → ArePassages fates
+passages_are : (fates : List Fate) → are_passages fates ≡ true → ArePassages fates
 passages_are [] e = tt
 passages_are (f ∷ fates) e =
     let a = and_parts (is_leg f.down) (is_leg f.up && are_passages fates) e in
@@ -24,5 +24,5 @@ closes_quietly_law set n s t heard good sends =
     let a = field_acts_law set n s Deselect heard t good sends in
     let passages = (and_parts (linked_at set.kind s.air.gone n s.cards) (are_passages s.air.fates) good).1 in
     let quiet = closes_quietly set.kind (shown n s) (passages_are s.air.fates passages) in
-    let same : (wire_send (shown n s) (wave_of_kind set.kind) (sealed (wave_of_kind set.kind) (spelled Deselect))).1 ≡ shown n t = ap (λ (x : Option Hearing × Wire). x.1) a.0 in
+    let same : (wire_send (shown n s) (wave_of_kind set.kind) (sealed (wave_of_kind set.kind) (spelled Deselect))).1 ≡ shown n t = ap (λ (x : Option Heard × Wire). x.1) a.0 in
     (sym (ap (λ (x : Wire). x.log) same) ∙ quiet.0, sym (ap (λ (x : Wire). x.party.image) same) ∙ quiet.1, a.1)

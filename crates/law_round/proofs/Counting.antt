@@ -7,11 +7,11 @@ use Rattle.ep_base.specs.declared.activation.Ats.{Ats}
 use Rattle.ep_base.specs.declared.activation.AtsFault.{AtsFault}
 use Rattle.ep_base.specs.declared.activation.Atqb.{Atqb}
 use Rattle.ep_base.specs.declared.activation.AtqbFault.{AtqbFault}
-use Rattle.ep_base.specs.Activation.{ats, atqb, bit}
-use Rattle.ep_base.specs.Hearing.{Hearing, RoundEnd, Turn, Goes, Ends, is_silent}
-use Rattle.ep_base.specs.TypeA.{AStage, Woken, Level, Select, Complete, is_level, continues, a_says, after_sak, after_ats}
-use Rattle.ep_base.specs.TypeB.{BStage, b_says, after_atqb}
-use Rattle.ep_base.specs.Round.{Stage, Waking, Halting, WakingB, InA, InB, round_hears, in_a, in_b, goes_on}
+use Rattle.ep_base.specs.Cards.Activation.{ats, atqb, bit}
+use Rattle.ep_base.specs.Air.Heard.{Heard, RoundEnd, Turn, Goes, Ends, is_silent}
+use Rattle.ep_base.specs.Cards.TypeA.{AStage, Woken, Level, Select, Complete, is_level, continues, a_says, after_sak, after_ats}
+use Rattle.ep_base.specs.Cards.TypeB.{BStage, b_says, after_atqb}
+use Rattle.ep_base.specs.Poll.Round.{Stage, Waking, Halting, WakingB, InA, InB, round_hears, in_a, in_b, goes_on}
 use Rattle.law_round.specs.Ending.{EndsInEleven}
 use Rattle.law_round.proofs.Presenting.{either, when, answered}
 
@@ -68,7 +68,7 @@ atqb_leaves : (r : Result Atqb AtqbFault) → Leaves 8 (in_b (after_atqb r))
 atqb_leaves (Ok a) = either (λ t. Leaves 8 (in_b t)) a.iso4 _ _ (tt, omega arith) (tt, omega arith)
 atqb_leaves (Err e) = (tt, omega arith)
 
-a_leaves : (stage : AStage) (heard : Hearing) → AtMostThree stage → Leaves (a_left stage - 1) (round_hears (InA stage) heard)
+a_leaves : (stage : AStage) (heard : Heard) → AtMostThree stage → Leaves (a_left stage - 1) (round_hears (InA stage) heard)
 a_leaves Woken heard h =
     answered (λ t. Leaves 7 (in_a t)) (a_says Woken) ABare heard (tt, omega arith) (tt, omega arith)
     (λ m. either (λ t. Leaves 7 (in_a t)) (length m == 2) _ _ ((omega arith, omega arith), omega arith) (tt, omega arith))
@@ -83,12 +83,12 @@ a_leaves (Select n before part) heard h =
 a_leaves (Complete read) heard h =
     answered (λ t. Leaves 0 (in_a t)) (a_says (Complete read)) A heard (tt, omega arith) (tt, omega arith) (λ m. ats_leaves read (ats m))
 
-b_leaves : (stage : BStage) (heard : Hearing) → Leaves 0 (round_hears (InB stage) heard)
+b_leaves : (stage : BStage) (heard : Heard) → Leaves 0 (round_hears (InB stage) heard)
 b_leaves stage heard =
     answered (λ t. Leaves 0 (in_b t)) (b_says stage) B heard (tt, omega arith) (tt, omega arith)
     (λ m. either (λ t. Leaves 0 (in_b t)) (nat_lt 0 (length m) && (slice_index m 0 % 16 == 0)) _ _ (tt, omega arith) (tt, omega arith))
 
-pub leaves : (stage : Stage) (heard : Hearing) → Leveled (Goes stage) → Leaves (left (Goes stage) - 1) (round_hears stage heard)
+pub leaves : (stage : Stage) (heard : Heard) → Leveled (Goes stage) → Leaves (left (Goes stage) - 1) (round_hears stage heard)
 leaves Waking heard h = either (λ s. Leaves 10 (Goes s)) (is_silent heard) (WakingB false) Halting (tt, omega arith) (tt, omega arith)
 leaves Halting heard h = (tt, omega arith)
 leaves (WakingB true) heard h = either (Leaves 8) (is_silent heard) _ _ (tt, omega arith) (tt, omega arith)
@@ -111,7 +111,7 @@ one_left (WakingB woke) h = omega arith
 one_left (InA stage) h = a_one stage h
 one_left (InB stage) h = omega arith
 
-ends_by : (t : Turn Stage) (answers : List Hearing) → Leveled t → left t ≤ length answers → (e : RoundEnd) × (goes_on t answers ≡ Ends e)
+ends_by : (t : Turn Stage) (answers : List Heard) → Leveled t → left t ≤ length answers → (e : RoundEnd) × (goes_on t answers ≡ Ends e)
 ends_by (Ends e) [] h l = (e, refl)
 ends_by (Ends e) (a ∷ more) h l = (e, refl)
 ends_by (Goes stage) [] h l = absurd (omega (arith, l, one_left stage h))

@@ -5,17 +5,17 @@ use Rattle.std.specs.Str.{bytes_eq}
 use Rattle.std.proofs.lemmas.Bool.{and_parts}
 use Rattle.ep_base.specs.declared.air.Wave.{Wave}
 use Rattle.ep_base.specs.declared.air.Wave.TheVariants.{AShort, ABare, A, B}
-use Rattle.ep_base.specs.Frame.{sealed, opened}
-use Rattle.ep_base.specs.FrameSize.{frame_size}
-use Rattle.ep_base.specs.Hearing.{framed, same_wave, Goes, CardReply, Mute, Sends, Opens, Passes}
-use Rattle.ep_base.specs.Activation.{bit}
-use Rattle.ep_base.specs.TypeA.{hlta, Woken, Level, Select, Complete, sel, APlan, AState, Idle, Ready, Active, Protocol, Halted, levels, level_part, sak_of, ats_of, atqa, after_select, a_takes, a_opened, a_card}
-use Rattle.ep_base.specs.TypeB.{attrib_of, wupb, BStage, BPlan, BState, BIdle, BReady, BProtocol, is_attrib, atqb_of, b_takes, b_opened, b_card}
-use Rattle.ep_base.specs.Round.{Stage, Waking, Halting, WakingB, InA, InB, round_asks}
-use Rattle.ep_base.specs.Field.{Outside, OfA, OfB, outside_after, outside_reply}
+use Rattle.ep_base.specs.Air.Frame.{sealed, opened}
+use Rattle.ep_base.specs.Air.FrameSize.{frame_size}
+use Rattle.ep_base.specs.Air.Heard.{framed, same_wave, Goes, CardHear, Mute, Sends, Opens, Passes}
+use Rattle.ep_base.specs.Cards.Activation.{bit}
+use Rattle.ep_base.specs.Cards.TypeA.{hlta, Woken, Level, Select, Complete, sel, APlan, AState, Idle, Ready, Active, Protocol, Halted, levels, level_part, sak_of, ats_of, atqa, after_select, a_takes, a_opened, a_card}
+use Rattle.ep_base.specs.Cards.TypeB.{attrib_of, wupb, BStage, BPlan, BState, BIdle, BReady, BProtocol, is_attrib, atqb_of, b_takes, b_opened, b_card}
+use Rattle.ep_base.specs.Poll.Round.{Stage, Waking, Halting, WakingB, InA, InB, round_asks}
+use Rattle.ep_base.specs.Cards.Field.{Outside, OfA, OfB, outside_after, outside_reply}
 use Rattle.rf_frame.proofs.Opening.{opened_sealed}
 use Rattle.law_round.specs.Inside.{a_inside, b_inside, is_inside}
-use Rattle.law_round.specs.Lawful.{IsFour, Bytes, IsFormed}
+use Rattle.ep_base.specs.Cards.Lawful.{IsFour, Bytes, IsFormed}
 use Rattle.law_round.proofs.Fitting.{Early, AtLevel, Chosen, NotOpen, NotOpenB, FitsA, Next}
 use Rattle.law_round.proofs.Presenting.{takes, keeps_b, selected, either, when, early_closed}
 use Rattle.law_round.proofs.PresentingB.{other_wave, its_own}
@@ -32,16 +32,16 @@ is_last (InA (Complete read)) = true
 is_last (InB stage) = true
 
 -- a card is in the block protocol then just where its answer opens it, with the reader's frame size; RATS and ATTRIB have no other answer
-abbrev pub Does : ℕ → Bool → Bool → CardReply → Type 0
+abbrev pub Does : ℕ → Bool → Bool → CardHear → Type 0
 Does fsdi last inside Mute = inside ≡ false
 Does fsdi last inside (Sends f) = (inside ≡ false) × (last ≡ false)
 Does fsdi last inside (Opens f fsd) = (inside ≡ true) × (fsd ≡ frame_size fsdi)
 Does fsdi last inside Passes = ⊥
 
-abbrev DoesA : ℕ → Stage → AState × CardReply → Type 0
+abbrev DoesA : ℕ → Stage → AState × CardHear → Type 0
 DoesA fsdi stage x = Does fsdi (is_last stage) (a_inside x.0) x.1
 
-abbrev DoesB : ℕ → Stage → BState × CardReply → Type 0
+abbrev DoesB : ℕ → Stage → BState × CardHear → Type 0
 DoesB fsdi stage x = Does fsdi (is_last stage) (b_inside x.0) x.1
 
 pub not_inside : (s : AState) → NotOpen s → a_inside s ≡ false

@@ -1,11 +1,11 @@
 -- Where a card can stand while a round goes on, and where at its end.
 use Rattle.std.proofs.Common.{◌≡◌, ℕ, ◌-◌, ◌*◌, ◌≤◌, List, take}
 use Rattle.ep_base.specs.declared.air.CardKind.TheVariants as kinds
-use Rattle.ep_base.specs.Hearing.{Activated, RoundEnd, Empty, Collision, Unsupported, Broken, Found, Turn, Goes, Ends}
-use Rattle.ep_base.specs.TypeA.{Woken, Level, Select, Complete, AState, Idle, Ready, Active, Protocol, Halted, levels}
-use Rattle.ep_base.specs.TypeB.{BState, BIdle, BReady, BProtocol}
-use Rattle.ep_base.specs.Round.{Stage, Waking, Halting, WakingB, InA, InB}
-use Rattle.ep_base.specs.Field.{Outside, OfA, OfB}
+use Rattle.ep_base.specs.Air.Heard.{Activated, RoundEnd, Empty, Collision, Unsupported, Broken, Found, Turn, Goes, Ends}
+use Rattle.ep_base.specs.Cards.TypeA.{Woken, Level, Select, Complete, AState, Idle, Ready, Active, Protocol, Halted, levels}
+use Rattle.ep_base.specs.Cards.TypeB.{BState, BIdle, BReady, BProtocol}
+use Rattle.ep_base.specs.Poll.Round.{Stage, Waking, Halting, WakingB, InA, InB}
+use Rattle.ep_base.specs.Cards.Field.{Outside, OfA, OfB}
 
 -- before the anticollision
 abbrev pub Early : AState → Type 0

@@ -1,16 +1,16 @@
 -- What the cards of a field do with a frame in a round.
 use Rattle.std.proofs.Common.{◌≡◌, ℕ, nat_lt, ◌&&◌, ◌⊎◌, inl, inr, Bool, true, false, List, [], ◌∷◌, ◌++◌, length, Option, None, sym, ap, ◌∙◌, subst, refl, append-nil, if◌then◌else◌}
 use Rattle.ep_base.specs.declared.air.Wave.{Wave}
-use Rattle.ep_base.specs.Frame.{opened}
-use Rattle.ep_base.specs.FrameSize.{frame_size}
-use Rattle.ep_base.specs.Hearing.{Framed, Hearing, Silence, Turn, Goes, CardReply, Mute, Sends, Opens, Passes}
-use Rattle.ep_base.specs.TypeA.{Woken, Level, Select, Complete, APlan, AState, Idle, Ready, Active, Protocol, Halted, a_opened, a_card}
-use Rattle.ep_base.specs.TypeB.{BPlan, BState, BIdle, BReady, BProtocol, b_opened, b_card}
-use Rattle.ep_base.specs.Round.{Stage, Waking, Halting, WakingB, InA, InB, round_asks, round_hears}
-use Rattle.ep_base.specs.CardEnd.{fresh_card}
-use Rattle.ep_base.specs.Field.{Outside, OfA, OfB, outside_after, outside_reply, outside_reset, Placed, Told, untouched, by_reply, hears_frame, one_hears, Heard, maybe_answer, and_then, all_hear}
+use Rattle.ep_base.specs.Air.Frame.{opened}
+use Rattle.ep_base.specs.Air.FrameSize.{frame_size}
+use Rattle.ep_base.specs.Air.Heard.{Sent, Heard, Silence, Turn, Goes, CardHear, Mute, Sends, Opens, Passes}
+use Rattle.ep_base.specs.Cards.TypeA.{Woken, Level, Select, Complete, APlan, AState, Idle, Ready, Active, Protocol, Halted, a_opened, a_card}
+use Rattle.ep_base.specs.Cards.TypeB.{BPlan, BState, BIdle, BReady, BProtocol, b_opened, b_card}
+use Rattle.ep_base.specs.Poll.Round.{Stage, Waking, Halting, WakingB, InA, InB, round_asks, round_hears}
+use Rattle.ep_base.specs.Link.CardEnd.{fresh_card}
+use Rattle.ep_base.specs.Cards.Field.{Outside, OfA, OfB, outside_after, outside_reply, outside_reset, Placed, Told, untouched, by_reply, hears_frame, one_hears, CardsHeard, maybe_answer, and_then, all_hear}
 use Rattle.law_round.specs.Inside.{is_inside}
-use Rattle.law_round.specs.Lawful.{IsFormed, ArePlaced, faces}
+use Rattle.ep_base.specs.Cards.Lawful.{IsFormed, ArePlaced, faces}
 use Rattle.law_round.proofs.Fitting.{Chosen, NotOpen, NotOpenB, FitsA, Next}
 use Rattle.law_round.proofs.Presenting.{step_a, early_closed, level_closed}
 use Rattle.law_round.proofs.PresentingB.{step_b}
@@ -19,7 +19,7 @@ use Rattle.law_round.proofs.Muteness.{still, either_way, skips}
 
 -- ---- one card
 
-pub next_after : (fsdi : ℕ) (stage : Stage) (heard : Hearing) (o : Outside) → IsFormed o → Next (Goes stage) o
+pub next_after : (fsdi : ℕ) (stage : Stage) (heard : Heard) (o : Outside) → IsFormed o → Next (Goes stage) o
     → Next (round_hears stage heard) (outside_after (round_asks fsdi stage).wave (round_asks fsdi stage).bytes o)
 next_after fsdi stage heard (OfA p s) u h = step_a fsdi p u stage s heard h
 next_after fsdi stage heard (OfB p s) f h = step_b fsdi p (four_long p.pupi f) stage s heard h
@@ -76,9 +76,9 @@ b_unopened p BProtocol w b o e = absurd o
 -- a damaged frame moves no card and is answered by none
 unopened_card : (stage : Stage) (w : Wave) (b : List ℕ) (o : Outside) → opened w b ≡ None → Next (Goes stage) o → (outside_after w b o ≡ o) × (outside_reply w b o ≡ Mute)
 unopened_card stage w b (OfA p s) e h =
-    let q = a_unopened p s w b (closed_a stage p.uid s h) e in (ap (λ (x : AState × CardReply). OfA p x.0) q, ap (λ (x : AState × CardReply). x.1) q)
+    let q = a_unopened p s w b (closed_a stage p.uid s h) e in (ap (λ (x : AState × CardHear). OfA p x.0) q, ap (λ (x : AState × CardHear). x.1) q)
 unopened_card stage w b (OfB p s) e h =
-    let q = b_unopened p s w b h e in (ap (λ (x : BState × CardReply). OfB p x.0) q, ap (λ (x : BState × CardReply). x.1) q)
+    let q = b_unopened p s w b h e in (ap (λ (x : BState × CardHear). OfB p x.0) q, ap (λ (x : BState × CardHear). x.1) q)
 
 plan_stays : (w : Wave) (b : List ℕ) (o : Outside) → outside_reset (outside_after w b o) ≡ outside_reset o
 plan_stays w b (OfA p s) = refl
@@ -111,7 +111,7 @@ pub record Heeds (fsdi : ℕ) (last : Bool) (turn : Turn Stage) (p : Placed) (t 
   kind : t.card.party.kind ≡ p.party.kind
   image : t.card.party.image ≡ p.party.image
 
-by_does : (fsdi : ℕ) (last : Bool) (turn : Turn Stage) (p : Placed) (o : Outside) (w : Wave) (b : List ℕ) (r : CardReply)
+by_does : (fsdi : ℕ) (last : Bool) (turn : Turn Stage) (p : Placed) (o : Outside) (w : Wave) (b : List ℕ) (r : CardHear)
     → p.present ≡ true → p.party.card ≡ fresh_card → Next turn o → outside_reset o ≡ outside_reset p.outside → Does fsdi last (is_inside o) r
     → Heeds fsdi last turn p (by_reply p o w b r)
 by_does fsdi last turn p o w b Mute here fresh n plan d = record {
@@ -157,7 +157,7 @@ module _ (fsdi : ℕ) (stage : Stage) where
   abbrev bytes : List ℕ
   bytes = (round_asks fsdi stage).bytes
 
-  pub by_present : (heard : Hearing) (room : ℕ) (log : List (ℕ × List ℕ)) (p : Placed) (present : Bool) → p.present ≡ present → nat_lt (length log) room ≡ true
+  pub by_present : (heard : Heard) (room : ℕ) (log : List (ℕ × List ℕ)) (p : Placed) (present : Bool) → p.present ≡ present → nat_lt (length log) room ≡ true
       → IsFormed p.outside → CardFits fsdi (Goes stage) p → Heeds fsdi (is_last stage) (round_hears stage heard) p (one_hears room wave bytes log p)
   by_present heard room log p true here free f h =
       let hears : (p.present && nat_lt (length log) room) ≡ true = rw (here, free) refl in
@@ -171,16 +171,16 @@ module _ (fsdi : ℕ) (stage : Stage) where
 
   -- ---- all cards
 
-  pub record AllHeed (turn : Turn Stage) (log : List (ℕ × List ℕ)) (ps : List Placed) (h : Heard) : Type 0 where
+  pub record AllHeed (turn : Turn Stage) (log : List (ℕ × List ℕ)) (ps : List Placed) (h : CardsHeard) : Type 0 where
     pub log_stays : h.log ≡ log
     pub fits : AllFits fsdi turn h.cards
     pub answered : is_last stage ≡ true → (h.answers ≡ []) ⊎ AnyInside h.cards
     pub faces_stay : faces h.cards ≡ faces ps
 
-  both_quiet : (a : Option Framed) (more : List Framed) → a ≡ None → more ≡ [] → maybe_answer a more ≡ []
+  both_quiet : (a : Option Sent) (more : List Sent) → a ≡ None → more ≡ [] → maybe_answer a more ≡ []
   both_quiet a more e f = ap (λ x. maybe_answer x more) e ∙ f
 
-  joins : (p : Placed) (ps : List Placed) (t : Told) (h : Heard)
+  joins : (p : Placed) (ps : List Placed) (t : Told) (h : CardsHeard)
       → (t.answer ≡ None) ⊎ (is_inside t.card.outside ≡ true) → (h.answers ≡ []) ⊎ AnyInside h.cards
       → ((and_then t h).answers ≡ []) ⊎ AnyInside (and_then t h).cards
   joins p ps t h (inl none) (inl nil) = inl (both_quiet t.answer h.answers none nil)
@@ -195,7 +195,7 @@ module _ (fsdi : ℕ) (stage : Stage) where
       ∙ ap (λ x. record { plan = outside_reset p.outside; kind = p.party.kind; image = x } ∷ faces qs) image
       ∙ ap (λ l. record { plan = outside_reset p.outside; kind = p.party.kind; image = p.party.image } ∷ l) rest
 
-  heed_cons : (turn : Turn Stage) (log : List (ℕ × List ℕ)) (p : Placed) (ps : List Placed) (t : Told) (h : Heard) → Heeds fsdi (is_last stage) turn p t → AllHeed turn log ps h
+  heed_cons : (turn : Turn Stage) (log : List (ℕ × List ℕ)) (p : Placed) (ps : List Placed) (t : Told) (h : CardsHeard) → Heeds fsdi (is_last stage) turn p t → AllHeed turn log ps h
       → AllHeed turn log (p ∷ ps) (and_then t h)
   heed_cons turn log p ps t h one all = record {
     log_stays = all.log_stays;
@@ -204,7 +204,7 @@ module _ (fsdi : ℕ) (stage : Stage) where
     faces_stay = face_cons p t.card ps h.cards one.plan one.kind one.image all.faces_stay;
   }
 
-  pub all_heed : (heard : Hearing) (room : ℕ) (log : List (ℕ × List ℕ)) (ps : List Placed) → nat_lt (length log) room ≡ true → ArePlaced ps → AllFits fsdi (Goes stage) ps
+  pub all_heed : (heard : Heard) (room : ℕ) (log : List (ℕ × List ℕ)) (ps : List Placed) → nat_lt (length log) room ≡ true → ArePlaced ps → AllFits fsdi (Goes stage) ps
       → AllHeed (round_hears stage heard) log ps (all_hear room wave bytes log ps)
   all_heed heard room log [] free f h = record { log_stays = refl; fits = tt; answered = λ l. inl refl; faces_stay = refl }
   all_heed heard room log (p ∷ ps) free f h =
@@ -220,7 +220,7 @@ abbrev pub Quiet : ℕ → Wave → List ℕ → List (ℕ × List ℕ) → List
 Quiet room w b log ps = all_hear room w b log ps ≡ record { cards = ps; log = log; answers = [] }
 
 quiet_cons : (room : ℕ) (w : Wave) (b : List ℕ) (log : List (ℕ × List ℕ)) (p : Placed) (ps : List Placed) → one_hears room w b log p ≡ untouched p → Quiet room w b log ps → Quiet room w b log (p ∷ ps)
-quiet_cons room w b log p ps e q = skips room w b log p ps e ∙ ap (λ (x : Heard). and_then (untouched p) x) q
+quiet_cons room w b log p ps e q = skips room w b log p ps e ∙ ap (λ (x : CardsHeard). and_then (untouched p) x) q
 
 skip_false : (b : Bool) (x y : Told) → (if b && false then x else y) ≡ y
 skip_false true x y = refl

@@ -6,23 +6,23 @@ use Rattle.std.proofs.lemmas.Bool.{eqb-false}
 use Rattle.ep_base.specs.declared.air.CardKind.{CardKind}
 use Rattle.ep_base.specs.declared.air.Wave.{Wave}
 use Rattle.ep_base.specs.declared.air.Wave.TheVariants.{AShort, ABare, A}
-use Rattle.ep_base.specs.Frame.{opened}
-use Rattle.ep_base.specs.FrameSize.{frame_size}
-use Rattle.ep_base.specs.Hearing.{Activated, framed, same_wave, wave_of_kind, CardReply, Mute, Sends, Opens, Passes}
-use Rattle.ep_base.specs.Activation.{bit}
+use Rattle.ep_base.specs.Air.Frame.{opened}
+use Rattle.ep_base.specs.Air.FrameSize.{frame_size}
+use Rattle.ep_base.specs.Air.Heard.{Activated, framed, same_wave, wave_of_kind, CardHear, Mute, Sends, Opens, Passes}
+use Rattle.ep_base.specs.Cards.Activation.{bit}
 use Rattle.std.specs.Prelude.{slice_index}
-use Rattle.ep_base.specs.TypeA.{APlan, AState, Idle, Ready, Active, Protocol, Halted, wupa, hlta, sel, levels, level_part, sak_of, ats_of, atqa, after_select, is_rats, a_select, a_other, a_takes, a_opened, a_card}
-use Rattle.ep_base.specs.CardAnswer.{Answered, Image, IsImage, card_answer}
-use Rattle.ep_base.specs.CardEnd.{is_halted, card_hears, unlogged}
-use Rattle.ep_base.specs.Images.{unasked, answered}
-use Rattle.ep_base.specs.Direct.{image_rules}
-use Rattle.ep_base.specs.Spelling.{Read, Reads, Refuses, read_block}
-use Rattle.ep_base.specs.Air.{next_fate}
-use Rattle.ep_base.specs.Wire.{Party, Heeded, unmoved, by_commands, image_after, takes_read, takes_opened, takes_frame, comes_down}
-use Rattle.ep_base.specs.Field.{Outside, OfA, OfB, outside_after, outside_reply, outside_reset, outside_halted, Placed, Told, untouched, by_reply, hears_frame, one_hears, all_hear, left_by, away, is_present, placed_reset, all_reset, Field, field_reset, all_take, field_hears, field_send}
+use Rattle.ep_base.specs.Cards.TypeA.{APlan, AState, Idle, Ready, Active, Protocol, Halted, wupa, hlta, sel, levels, level_part, sak_of, ats_of, atqa, after_select, is_rats, a_select, a_other, a_takes, a_opened, a_card}
+use Rattle.ep_base.specs.Cards.CardAnswer.{Answered, Image, IsImage, card_answer}
+use Rattle.ep_base.specs.Link.CardEnd.{is_halted, card_hears, unlogged}
+use Rattle.ep_base.specs.Cards.Images.{unasked, answered}
+use Rattle.ep_base.specs.Cards.Direct.{image_rules}
+use Rattle.ep_base.specs.Link.Spelling.{Read, Reads, Refuses, read_block}
+use Rattle.ep_base.specs.Air.Fates.{next_fate}
+use Rattle.ep_base.specs.Link.Wire.{Party, Heeded, unmoved, by_commands, image_after, takes_read, takes_opened, takes_frame, comes_down}
+use Rattle.ep_base.specs.Cards.Field.{Outside, OfA, OfB, outside_after, outside_reply, outside_reset, outside_halted, Placed, Told, untouched, by_reply, hears_frame, one_hears, all_hear, left_by, away, is_present, placed_reset, all_reset, Field, field_reset, all_take, field_hears, field_send}
 use Rattle.law_wire.proofs.Limits.{images_keep}
 use Rattle.law_wire.proofs.Passing.{next_legs}
-use Rattle.law_round.specs.Lawful.{IsUid, IsFormed, AtLevelOf, Stands, kind_of, id_of, IsPlaced, ArePlaced, names, AreApart, Lawful, BeginsLawful, StaysLawful}
+use Rattle.ep_base.specs.Cards.Lawful.{IsUid, IsFormed, AtLevelOf, Stands, kind_of, id_of, IsPlaced, ArePlaced, names, AreApart, Lawful, BeginsLawful, StaysLawful}
 use Rattle.law_round.proofs.Presenting.{either, when, one_level}
 
 -- ---- where a card stands
@@ -30,7 +30,7 @@ use Rattle.law_round.proofs.Presenting.{either, when, one_level}
 next_level : (p : APlan) (n : ℕ) → 1 ≤ n → n ≤ levels p.uid → AtLevelOf p.uid (after_select p n)
 next_level p n f l = when (AtLevelOf p.uid) (nat_eq n (levels p.uid)) Active (Ready (n + 1)) (λ e. tt) (λ e. let differs : n ≢ levels p.uid = eqb-false n (levels p.uid) e in (omega arith, omega (arith, differs)))
 
-abbrev At : APlan → AState × CardReply → Type 0
+abbrev At : APlan → AState × CardHear → Type 0
 At p x = AtLevelOf p.uid x.0
 
 select_stands : (p : APlan) (n : ℕ) (part : List ℕ) → 1 ≤ n → n ≤ levels p.uid → At p (a_select p n part)
@@ -142,7 +142,7 @@ placed_by p q r h = record {
   image = r.party.image h.image;
 }
 
-reply_replaces : (p : Placed) (w : Wave) (b : List ℕ) (r : CardReply) → Replaces p (by_reply p (outside_after w b p.outside) w b r).card
+reply_replaces : (p : Placed) (w : Wave) (b : List ℕ) (r : CardHear) → Replaces p (by_reply p (outside_after w b p.outside) w b r).card
 reply_replaces p w b Mute = record { outside = moves_after w b p.outside; party = same_party p.party }
 reply_replaces p w b (Sends f) = record { outside = moves_after w b p.outside; party = same_party p.party }
 reply_replaces p w b (Opens f fsd) = record { outside = moves_after w b p.outside; party = record { kind = refl; image = λ i. i } }

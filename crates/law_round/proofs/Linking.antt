@@ -1,14 +1,14 @@
 -- The one card that a round leaves in the block protocol.
 use Rattle.std.proofs.Common.{◌≡◌, ◌≢◌, ℕ, ◌≤◌, inl, inr, Bool, true, false, List, [], ◌∷◌, ◌++◌, Some, sym, ap, ◌∙◌, subst, refl, arith, le-leb}
-use Rattle.ep_base.specs.Hearing.{Activated, RoundEnd, Found, Turn, Ends}
-use Rattle.ep_base.specs.TypeA.{Idle, Ready, Active, Protocol, Halted, levels}
-use Rattle.ep_base.specs.TypeB.{BIdle, BReady, BProtocol}
-use Rattle.ep_base.specs.Medium.{told}
-use Rattle.ep_base.specs.Polling.{PlaysRound}
-use Rattle.ep_base.specs.Round.{Stage}
-use Rattle.ep_base.specs.Field.{Outside, OfA, OfB, Placed, Field, field}
+use Rattle.ep_base.specs.Air.Heard.{Activated, RoundEnd, Found, Turn, Ends}
+use Rattle.ep_base.specs.Cards.TypeA.{Idle, Ready, Active, Protocol, Halted, levels}
+use Rattle.ep_base.specs.Cards.TypeB.{BIdle, BReady, BProtocol}
+use Rattle.ep_base.specs.Air.Medium.{told}
+use Rattle.ep_base.specs.Poll.Polling.{PlaysRound}
+use Rattle.ep_base.specs.Poll.Round.{Stage}
+use Rattle.ep_base.specs.Cards.Field.{Outside, OfA, OfB, Placed, Field, field}
 use Rattle.law_round.specs.Inside.{is_inside, is_out, all_out}
-use Rattle.law_round.specs.Lawful.{IsUid, Four, Seven, Ten, IsFormed, Stands, kind_of, id_of, IsPlaced, ArePlaced, names, IsApart, AreApart, Lawful}
+use Rattle.ep_base.specs.Cards.Lawful.{IsUid, Four, Seven, Ten, IsFormed, Stands, kind_of, id_of, IsPlaced, ArePlaced, names, IsApart, AreApart, Lawful}
 use Rattle.law_round.specs.Linked.{HasLink, OneLink, LinksOne, KeepsCards}
 use Rattle.law_round.proofs.Fitting.{Next}
 use Rattle.law_round.proofs.Hearing.{CardFits, AllFits, AnyInside}

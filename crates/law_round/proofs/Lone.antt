@@ -1,16 +1,16 @@
 -- A field in which one card is present.
 use Rattle.std.proofs.Common.{◌≡◌, ℕ, zero, suc, nat_lt, le-leb, ◌&&◌, ◌||◌, Bool, true, false, List, [], ◌∷◌, ◌++◌, length, Option, Some, sym, ap, ◌∙◌, subst, refl, append-nil, if◌then◌else◌}
 use Rattle.ep_base.specs.declared.air.Wave.{Wave}
-use Rattle.ep_base.specs.Hearing.{Framed, Hearing, RoundEnd, Turn, Goes, Ends, CardReply, Mute, Sends, Opens}
-use Rattle.ep_base.specs.Hearing as replies
-use Rattle.ep_base.specs.Round.{Stage, Waking, round_asks, round_hears}
-use Rattle.ep_base.specs.Air.{Passes, Passage, AllPass, next_fate, fates_after}
-use Rattle.ep_base.specs.Medium.{told}
-use Rattle.ep_base.specs.Polling.{AfterExchange, Plays, PlaysRound}
-use Rattle.ep_base.specs.Wire.{comes_down, comes_back}
-use Rattle.ep_base.specs.Field.{Outside, OfA, OfB, outside_after, outside_reply, Placed, Told, untouched, by_reply, hears_frame, one_hears, Heard, maybe_answer, and_then, all_hear, joined, left_by, leaves, away, Field, field_reset, all_take, field_hears, field_send, field}
+use Rattle.ep_base.specs.Air.Heard.{Sent, Heard, RoundEnd, Turn, Goes, Ends, CardHear, Mute, Sends, Opens}
+use Rattle.ep_base.specs.Air.Heard as replies
+use Rattle.ep_base.specs.Poll.Round.{Stage, Waking, round_asks, round_hears}
+use Rattle.ep_base.specs.Air.Fates.{Passes, Fate, AllPass, next_fate, fates_after}
+use Rattle.ep_base.specs.Air.Medium.{told}
+use Rattle.ep_base.specs.Poll.Polling.{AfterExchange, Plays, PlaysRound}
+use Rattle.ep_base.specs.Link.Wire.{comes_down, comes_back}
+use Rattle.ep_base.specs.Cards.Field.{Outside, OfA, OfB, outside_after, outside_reply, Placed, Told, untouched, by_reply, hears_frame, one_hears, CardsHeard, maybe_answer, and_then, all_hear, joined, left_by, leaves, away, Field, field_reset, all_take, field_hears, field_send, field}
 use Rattle.law_round.specs.Inside.{is_inside}
-use Rattle.law_round.specs.Lawful.{IsFormed}
+use Rattle.ep_base.specs.Cards.Lawful.{IsFormed}
 use Rattle.law_round.specs.Alone.{AreAbsent, IsAlone, AloneIn}
 use Rattle.law_round.proofs.Fitting.{Next}
 use Rattle.law_round.proofs.Doing.{is_last, Does, does}
@@ -19,24 +19,24 @@ use Rattle.law_round.proofs.Hearing.{Quiet, away_hear, away_one, next_after}
 use Rattle.law_round.proofs.Rounds.{Awake, stays_awake, no_reset, sends_only, first_sent}
 
 -- what a card sends outside the block protocol
-abbrev pub sent : CardReply → List Framed
+abbrev pub sent : CardHear → List Sent
 sent Mute = []
 sent (Sends f) = f ∷ []
 sent (Opens f fsd) = f ∷ []
 sent replies.Passes = []
 
 -- what the reader hears of one card
-abbrev pub lone : Wave → List ℕ → Outside → Hearing
+abbrev pub lone : Wave → List ℕ → Outside → Heard
 lone wave bytes o = joined (sent (outside_reply wave bytes o))
 
 -- what the card tells
-record Tells (p : Placed) (o : Outside) (r : CardReply) (t : Told) : Type 0 where
+record Tells (p : Placed) (o : Outside) (r : CardHear) (t : Told) : Type 0 where
   executed : t.executed ≡ []
   answer : maybe_answer t.answer [] ≡ sent r
   outside : t.card.outside ≡ o
   present : t.card.present ≡ p.present
 
-tells : (fsdi : ℕ) (last : Bool) (p : Placed) (o : Outside) (w : Wave) (b : List ℕ) (r : CardReply) → Does fsdi last (is_inside o) r → Tells p o r (by_reply p o w b r)
+tells : (fsdi : ℕ) (last : Bool) (p : Placed) (o : Outside) (w : Wave) (b : List ℕ) (r : CardHear) → Does fsdi last (is_inside o) r → Tells p o r (by_reply p o w b r)
 tells fsdi last p o w b Mute d = record { executed = refl; answer = refl; outside = refl; present = refl }
 tells fsdi last p o w b (Sends f) d = record { executed = refl; answer = refl; outside = refl; present = refl }
 tells fsdi last p o w b (Opens f fsd) d = record { executed = refl; answer = refl; outside = refl; present = refl }
@@ -55,7 +55,7 @@ record LoneCard (o : Outside) (ps : List Placed) : Type 0 where
 
 module _ (room : ℕ) (w : Wave) (b : List ℕ) (log : List (ℕ × List ℕ)) (free : nat_lt (length log) room ≡ true) where
   -- the cards, the log and the answers after a frame that the lone card hears
-  abbrev After : Outside → List Placed → Heard → Type 0
+  abbrev After : Outside → List Placed → CardsHeard → Type 0
   After o ps h = LoneCard (outside_after w b o) h.cards × (h.log ≡ log) × (h.answers ≡ sent (outside_reply w b o))
 
   hears_it : (p : Placed) → p.present ≡ true → one_hears room w b log p ≡ hears_frame p w b
@@ -74,7 +74,7 @@ module _ (room : ℕ) (w : Wave) (b : List ℕ) (log : List (ℕ × List ℕ)) (
         t.answer,
       ) in
       let heard : After p.outside (p ∷ ps) (and_then told_one (all_hear room w b (log ++ told_one.executed) ps)) =
-      subst (λ (h : Heard). After p.outside (p ∷ ps) (and_then told_one h)) (sym rest) result in
+      subst (λ (h : CardsHeard). After p.outside (p ∷ ps) (and_then told_one h)) (sym rest) result in
       let mine : After p.outside (p ∷ ps) (all_hear room w b log (p ∷ ps)) =
       subst (λ (x : Told). After p.outside (p ∷ ps) (and_then x (all_hear room w b (log ++ x.executed) ps))) (sym (hears_it p here)) heard in
       subst (λ x. After x (p ∷ ps) (all_hear room w b log (p ∷ ps))) is mine
@@ -84,7 +84,7 @@ module _ (room : ℕ) (w : Wave) (b : List ℕ) (log : List (ℕ × List ℕ)) (
       let c = a.0 in
       let x : LoneCard (outside_after w b o) (p ∷ (all_hear room w b log ps).cards) =
       record { before = p ∷ c.before; one = c.one; after = c.after; are = ap (λ l. p ∷ l) c.are; present = c.present; outside = c.outside; absent_before = (gone, c.absent_before); absent_after = c.absent_after } in
-      subst (λ (h : Heard). After o (p ∷ ps) h) (sym (skips room w b log p ps (away_one room w b log p gone))) (x, a.1, a.2)
+      subst (λ (h : CardsHeard). After o (p ∷ ps) h) (sym (skips room w b log p ps (away_one room w b log p gone))) (x, a.1, a.2)
 
   lone_hears : (o : Outside) (before : List Placed) (one : Placed) (after : List Placed) → one.present ≡ true → one.outside ≡ o → AreAbsent before → AreAbsent after
       → Tells one (outside_after w b one.outside) (outside_reply w b one.outside) (hears_frame one w b) → After o (before ++ one ∷ after) (all_hear room w b log (before ++ one ∷ after))
@@ -100,7 +100,7 @@ record Lone (turn : Turn Stage) (o : Outside) (f : Field) : Type 0 where
   formed : IsFormed o
   fits : Next turn o
 
-next_pass : (fates : List Passage) → AllPass fates → ((next_fate fates).down ≡ Passes) × ((next_fate fates).up ≡ Passes) × AllPass (fates_after fates)
+next_pass : (fates : List Fate) → AllPass fates → ((next_fate fates).down ≡ Passes) × ((next_fate fates).up ≡ Passes) × AllPass (fates_after fates)
 next_pass [] h = (refl, refl, tt)
 next_pass (f ∷ fates) h = h
 
@@ -124,7 +124,7 @@ module _ (fsdi : ℕ) (stage : Stage) where
       subst (λ ps. After f.room wave bytes f.log l.free o ps (all_hear f.room wave bytes f.log ps)) (sym c.are)
       (lone_hears f.room wave bytes f.log l.free o c.before c.one c.after c.present c.outside c.absent_before c.absent_after t)
 
-  abbrev heard : Outside → Hearing
+  abbrev heard : Outside → Heard
   heard o = lone wave bytes o
 
   -- one exchange
@@ -138,10 +138,10 @@ module _ (fsdi : ℕ) (stage : Stage) where
       let hears : field_hears f wave bytes ≡ all = ap (λ d. all_take f wave (comes_down d wave bytes)) pass.0 in
       let stays : away fate ≡ false = ap (λ d. leaves d || leaves fate.up) pass.0 ∙ ap leaves pass.1 in
       let cards_are : (field_send f wave bytes).1.cards ≡ all.cards =
-      ap (λ x. if x then left_by (field_hears f wave bytes).cards else (field_hears f wave bytes).cards) stays ∙ ap (λ (h : Heard). h.cards) hears in
-      let log_is : (field_send f wave bytes).1.log ≡ f.log = ap (λ (h : Heard). h.log) hears ∙ a.1 in
+      ap (λ x. if x then left_by (field_hears f wave bytes).cards else (field_hears f wave bytes).cards) stays ∙ ap (λ (h : CardsHeard). h.cards) hears in
+      let log_is : (field_send f wave bytes).1.log ≡ f.log = ap (λ (h : CardsHeard). h.log) hears ∙ a.1 in
       let says : (field_send f wave bytes).0 ≡ Some (heard o) =
-      ap (λ u. Some (comes_back u (joined (field_hears f wave bytes).answers))) pass.1 ∙ ap (λ (h : Heard). Some (joined h.answers)) hears ∙ ap (λ x. Some (joined x)) a.2 in (
+      ap (λ u. Some (comes_back u (joined (field_hears f wave bytes).answers))) pass.1 ∙ ap (λ (h : CardsHeard). Some (joined h.answers)) hears ∙ ap (λ x. Some (joined x)) a.2 in (
         says,
         record {
           card = subst (λ ps. LoneCard (outside_after wave bytes o) ps) (sym cards_are) a.0;
@@ -166,7 +166,7 @@ pub record Follows (n : ℕ) (fsdi : ℕ) (o : Outside) (turn : Turn Stage) (end
   pub solo_ends : solo n fsdi o turn ≡ Ends end
 
 module _ (fsdi : ℕ) where
-  rest_of : (n : ℕ) (stage : Stage) (f : Field) (o : Outside) (h : Option Hearing) (u : Field) (ending : Option RoundEnd) (t : Field)
+  rest_of : (n : ℕ) (stage : Stage) (f : Field) (o : Outside) (h : Option Heard) (u : Field) (ending : Option RoundEnd) (t : Field)
       → ((turn : Turn Stage) (g : Field) (x : Outside) → Awake turn → Lone turn x g → Plays (told field) fsdi n turn g ending t → Follows n fsdi x turn ending)
       → Lone (Goes stage) o f → field_send f (wave fsdi stage) (bytes fsdi stage) ≡ (h, u)
       → AfterExchange (told field) fsdi (λ x. Plays (told field) fsdi n (round_hears stage x)) h u ending t → Follows (suc n) fsdi o (Goes stage) ending
@@ -174,8 +174,8 @@ module _ (fsdi : ℕ) where
   rest_of n stage f o h u ending t more l sends rest =
       let x = sends_lone fsdi stage f o l in
       let g = (field_send f (wave fsdi stage) (bytes fsdi stage)).1 in
-      let heard_is : h ≡ Some (heard fsdi stage o) = sym (ap (λ (p : Option Hearing × Field). p.0) sends) ∙ x.0 in
-      let field_is : u ≡ g = sym (ap (λ (p : Option Hearing × Field). p.1) sends) in
+      let heard_is : h ≡ Some (heard fsdi stage o) = sym (ap (λ (p : Option Heard × Field). p.0) sends) ∙ x.0 in
+      let field_is : u ≡ g = sym (ap (λ (p : Option Heard × Field). p.1) sends) in
       let going : Plays (told field) fsdi n (round_hears stage (heard fsdi stage o)) g ending t =
       subst (λ a. AfterExchange (told field) fsdi (λ y. Plays (told field) fsdi n (round_hears stage y)) a g ending t) heard_is
       (subst (λ v. AfterExchange (told field) fsdi (λ y. Plays (told field) fsdi n (round_hears stage y)) h v ending t) field_is rest) in

@@ -1,20 +1,20 @@
 -- A field over which every frame passes: it stays so in rounds and in links, and no link is spent.
 use Rattle.std.proofs.Common.{◌≡◌, ℕ, zero, suc, Bool, true, false, List, Option, Some, None, sym, ap, ◌∙◌, subst}
 use Rattle.ep_base.specs.declared.air.Wave.{Wave}
-use Rattle.ep_base.specs.Air.{Leg, AllPass, gone_by, next_fate}
-use Rattle.ep_base.specs.Apdu.{is_command}
-use Rattle.ep_base.specs.Block.{Block}
-use Rattle.ep_base.specs.Carry.{SendsBlock, AtRest, OfLink, Follows}
-use Rattle.ep_base.specs.Field.{Field, field_send, field}
-use Rattle.ep_base.specs.Frame.{sealed}
-use Rattle.ep_base.specs.Hearing.{Asked, Hearing, RoundEnd, Turn, Goes, Ends, wave_of_kind}
-use Rattle.ep_base.specs.LinkFrames.{LinkSetting}
-use Rattle.ep_base.specs.Medium.{told, AfterReset, ExchangesBy}
-use Rattle.ep_base.specs.Polling.{AfterExchange, Plays, PlaysRound}
-use Rattle.ep_base.specs.ReaderEnd as links
-use Rattle.ep_base.specs.ReaderEnd.{Reader, begin}
-use Rattle.ep_base.specs.Round.{Stage, round_asks, round_hears}
-use Rattle.ep_base.specs.Spelling.{spelled}
+use Rattle.ep_base.specs.Air.Fates.{Way, AllPass, gone_by, next_fate}
+use Rattle.ep_base.specs.Cards.Apdu.{is_command}
+use Rattle.ep_base.specs.Link.Block.{Block}
+use Rattle.ep_base.specs.Link.Carry.{SendsBlock, AtRest, OfLink, Follows}
+use Rattle.ep_base.specs.Cards.Field.{Field, field_send, field}
+use Rattle.ep_base.specs.Air.Frame.{sealed}
+use Rattle.ep_base.specs.Air.Heard.{Ask, Heard, RoundEnd, Turn, Goes, Ends, wave_of_kind}
+use Rattle.ep_base.specs.Link.LinkFrames.{LinkSetting}
+use Rattle.ep_base.specs.Air.Medium.{told, AfterReset, ExchangesBy}
+use Rattle.ep_base.specs.Poll.Polling.{AfterExchange, Plays, PlaysRound}
+use Rattle.ep_base.specs.Link.ReaderEnd as links
+use Rattle.ep_base.specs.Link.ReaderEnd.{Reader, begin}
+use Rattle.ep_base.specs.Poll.Round.{Stage, round_asks, round_hears}
+use Rattle.ep_base.specs.Link.Spelling.{spelled}
 use Rattle.law_round.specs.Acting.{is_open, shown}
 use Rattle.law_round.proofs.Acting.{field_acts_law}
 use Rattle.law_round.proofs.Carrying.{along}
@@ -37,26 +37,26 @@ clear_send : (f : Field) (wave : Wave) (bytes : List ℕ) → IsClear f → IsCl
 clear_send f wave bytes clear =
     let pass = next_pass f.air.fates clear.1 in (
       ap (λ (gone : Bool). gone_by (gone_by gone (next_fate f.air.fates).down) (next_fate f.air.fates).up) clear.0
-          ∙ ap (λ (leg : Leg). gone_by (gone_by false leg) (next_fate f.air.fates).up) pass.0
-          ∙ ap (λ (leg : Leg). gone_by false leg) pass.1,
+          ∙ ap (λ (leg : Way). gone_by (gone_by false leg) (next_fate f.air.fates).up) pass.0
+          ∙ ap (λ (leg : Way). gone_by false leg) pass.1,
       pass.2,
     )
 
 -- ---- rounds
 
 module _ (fsdi : ℕ) where
-  after_reset : (s t : Field) (well : Bool) (ask : Asked) (heard : Option Hearing) → Passing s → AfterReset (told field) well s ask heard t → Passing t
-  after_reset s t true ask heard all x = subst (λ (y : Option Hearing × Field). Passing y.1) x (passing_send s ask.wave ask.bytes all)
+  after_reset : (s t : Field) (well : Bool) (ask : Ask) (heard : Option Heard) → Passing s → AfterReset (told field) well s ask heard t → Passing t
+  after_reset s t true ask heard all x = subst (λ (y : Option Heard × Field). Passing y.1) x (passing_send s ask.wave ask.bytes all)
   after_reset s t false ask heard all x = subst (λ (f : Field). Passing f) (sym x.1) all
 
-  exchanged : (s t : Field) (reset : Bool) (ask : Asked) (heard : Option Hearing) → Passing s → ExchangesBy (told field) reset s ask heard t → Passing t
-  exchanged s t false ask heard all x = subst (λ (y : Option Hearing × Field). Passing y.1) x (passing_send s ask.wave ask.bytes all)
+  exchanged : (s t : Field) (reset : Bool) (ask : Ask) (heard : Option Heard) → Passing s → ExchangesBy (told field) reset s ask heard t → Passing t
+  exchanged s t false ask heard all x = subst (λ (y : Option Heard × Field). Passing y.1) x (passing_send s ask.wave ask.bytes all)
   exchanged s t true ask heard all x =
       let all_still : Passing x.1 = subst (λ (y : Bool × Field). Passing y.1) x.2 all in
       after_reset x.1 t x.0 ask heard all_still x.3
 
-  after_exchange : (u t : Field) (heard : Option Hearing) (ending : Option RoundEnd) (Then : Hearing → Field → Option RoundEnd → Field → Type 0)
-      → ((h : Hearing) → Then h u ending t → Passing t) → Passing u → AfterExchange (told field) fsdi Then heard u ending t → Passing t
+  after_exchange : (u t : Field) (heard : Option Heard) (ending : Option RoundEnd) (Then : Heard → Field → Option RoundEnd → Field → Type 0)
+      → ((h : Heard) → Then h u ending t → Passing t) → Passing u → AfterExchange (told field) fsdi Then heard u ending t → Passing t
   after_exchange u t (Some h) ending Then more all x = more h x
   after_exchange u t None ending Then more all x = subst (λ (f : Field). Passing f) (sym x.1) all
 
@@ -77,22 +77,22 @@ module _ (fsdi : ℕ) where
 -- ---- links
 
 -- a block leaves it so
-pub passing_block : (set : LinkSetting) (b : Block) (s t : Field) (heard : Option Hearing) → Passing s → SendsBlock (told field) set s b heard t → Passing t
+pub passing_block : (set : LinkSetting) (b : Block) (s t : Field) (heard : Option Heard) → Passing s → SendsBlock (told field) set s b heard t → Passing t
 passing_block set b s t heard all x =
     let e : field_send s (wave_of_kind set.kind) (sealed (wave_of_kind set.kind) (spelled b)) ≡ (heard, t) = x in
-    subst (λ (y : Option Hearing × Field). Passing y.1) e (passing_send s (wave_of_kind set.kind) (sealed (wave_of_kind set.kind) (spelled b)) all)
+    subst (λ (y : Option Heard × Field). Passing y.1) e (passing_send s (wave_of_kind set.kind) (sealed (wave_of_kind set.kind) (spelled b)) all)
 
-clear_block : (set : LinkSetting) (b : Block) (s t : Field) (heard : Option Hearing) → IsClear s → SendsBlock (told field) set s b heard t → IsClear t
+clear_block : (set : LinkSetting) (b : Block) (s t : Field) (heard : Option Heard) → IsClear s → SendsBlock (told field) set s b heard t → IsClear t
 clear_block set b s t heard clear x =
     let e : field_send s (wave_of_kind set.kind) (sealed (wave_of_kind set.kind) (spelled b)) ≡ (heard, t) = x in
-    subst (λ (y : Option Hearing × Field). IsClear y.1) e (clear_send s (wave_of_kind set.kind) (sealed (wave_of_kind set.kind) (spelled b)) clear)
+    subst (λ (y : Option Heard × Field). IsClear y.1) e (clear_send s (wave_of_kind set.kind) (sealed (wave_of_kind set.kind) (spelled b)) clear)
 
 -- and so does a command, also where the cards aren't gone
-pub command_clear : (set : LinkSetting) (n : ℕ) (s t : Field) (r : Reader) (hs : List Hearing) (turn : links.Turn) → is_open set.kind n s ≡ true → IsClear s → Follows (told field) set hs r s turn t → IsClear t
+pub command_clear : (set : LinkSetting) (n : ℕ) (s t : Field) (r : Reader) (hs : List Heard) (turn : links.Turn) → is_open set.kind n s ≡ true → IsClear s → Follows (told field) set hs r s turn t → IsClear t
 command_clear set n s t r hs turn good clear x = along set n IsClear (λ u v b heard g sends p. clear_block set b u v heard p sends) hs r s turn t good clear x
 
 -- a command over an open link to a card that is there doesn't spend the link
-pub unspent_in_field : (set : LinkSetting) (n : ℕ) (s t : Field) (r : Reader) (command : List ℕ) (hs : List Hearing) (turn : links.Turn)
+pub unspent_in_field : (set : LinkSetting) (n : ℕ) (s t : Field) (r : Reader) (command : List ℕ) (hs : List Heard) (turn : links.Turn)
     → is_open set.kind n s ≡ true → OfLink set (shown n s) → AtRest r (shown n s).party.card → is_command command ≡ true → IsClear s
     → Follows (told field) set hs (begin set.frames.card command r) s turn t → IsUnspent turn
 unspent_in_field set n s t r command hs turn good of rest legal clear x =

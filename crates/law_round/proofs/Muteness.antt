@@ -7,17 +7,17 @@ use Rattle.ep_base.specs.declared.air.CardKind.{CardKind}
 use Rattle.ep_base.specs.declared.air.CardKind.TheVariants as kinds
 use Rattle.ep_base.specs.declared.air.Wave.{Wave}
 use Rattle.ep_base.specs.declared.air.Wave.TheVariants.{A, B}
-use Rattle.ep_base.specs.Frame.{sealed, opened, is_good}
-use Rattle.ep_base.specs.FrameSize.{frame_size}
-use Rattle.ep_base.specs.Hearing.{framed, CardReply, Mute, Sends, Opens, wave_of_kind}
-use Rattle.ep_base.specs.Activation.{bit}
-use Rattle.ep_base.specs.TypeA.{sel, APlan, AState, Idle, Ready, Active, Protocol, Halted, a_takes, a_opened, a_card, a_select, a_other, ats_of}
-use Rattle.ep_base.specs.TypeB.{BPlan, BState, BIdle, BReady, BProtocol, b_takes, b_opened, b_card, b_other, atqb_of}
-use Rattle.ep_base.specs.Air.{Leg, IsLeg}
-use Rattle.ep_base.specs.Block.{Block, I, RAck, RNak, Deselect, Wtx}
-use Rattle.ep_base.specs.Spelling.{spelled}
-use Rattle.ep_base.specs.Wire.{comes_down}
-use Rattle.ep_base.specs.Field.{Outside, OfA, OfB, outside_after, outside_reply, Placed, Told, untouched, by_reply, hears_frame, one_hears, Heard, and_then, all_hear}
+use Rattle.ep_base.specs.Air.Frame.{sealed, opened, is_good}
+use Rattle.ep_base.specs.Air.FrameSize.{frame_size}
+use Rattle.ep_base.specs.Air.Heard.{framed, CardHear, Mute, Sends, Opens, wave_of_kind}
+use Rattle.ep_base.specs.Cards.Activation.{bit}
+use Rattle.ep_base.specs.Cards.TypeA.{sel, APlan, AState, Idle, Ready, Active, Protocol, Halted, a_takes, a_opened, a_card, a_select, a_other, ats_of}
+use Rattle.ep_base.specs.Cards.TypeB.{BPlan, BState, BIdle, BReady, BProtocol, b_takes, b_opened, b_card, b_other, atqb_of}
+use Rattle.ep_base.specs.Air.Fates.{Way, IsLeg}
+use Rattle.ep_base.specs.Link.Block.{Block, I, RAck, RNak, Deselect, Wtx}
+use Rattle.ep_base.specs.Link.Spelling.{spelled}
+use Rattle.ep_base.specs.Link.Wire.{comes_down}
+use Rattle.ep_base.specs.Cards.Field.{Outside, OfA, OfB, outside_after, outside_reply, Placed, Told, untouched, by_reply, hears_frame, one_hears, CardsHeard, and_then, all_hear}
 use Rattle.rf_frame.proofs.Opening.{ends_sealed}
 use Rattle.law_wire.proofs.Reading.{opened_spelled}
 use Rattle.law_round.specs.Inside.{a_out, b_out, is_out, all_out}
@@ -121,10 +121,10 @@ pub card_keeps : (kind : CardKind) (bytes : List ℕ) (c : Outside) → IsBlock 
     → (outside_after (wave_of_kind kind) bytes c ≡ c) × (outside_reply (wave_of_kind kind) bytes c ≡ Mute)
 card_keeps kind bytes (OfA p s) h o =
     let e = a_opens p s (wave_of_kind kind) bytes o ∙ a_block p s kind (opened (wave_of_kind kind) bytes) h o in
-    (ap (λ (x : AState × CardReply). OfA p x.0) e, ap (λ (x : AState × CardReply). x.1) e)
+    (ap (λ (x : AState × CardHear). OfA p x.0) e, ap (λ (x : AState × CardHear). x.1) e)
 card_keeps kind bytes (OfB p s) h o =
     let e = b_opens p s (wave_of_kind kind) bytes o ∙ b_block p s kind (opened (wave_of_kind kind) bytes) h o in
-    (ap (λ (x : BState × CardReply). OfB p x.0) e, ap (λ (x : BState × CardReply). x.1) e)
+    (ap (λ (x : BState × CardHear). OfB p x.0) e, ap (λ (x : BState × CardHear). x.1) e)
 
 -- a card that neither moves nor answers
 pub still : (wave : Wave) (bytes : List ℕ) (p : Placed) → outside_after wave bytes p.outside ≡ p.outside → outside_reply wave bytes p.outside ≡ Mute
@@ -154,7 +154,7 @@ all_keep kind bytes room log [] h o = refl
 all_keep kind bytes room log (p ∷ ps) h o =
     let parts = and_parts (is_out p.outside) (all_out ps) o in
     skips room (wave_of_kind kind) bytes log p ps (block_keeps kind bytes room log p h parts.0)
-    ∙ ap (λ (x : Heard). and_then (untouched p) x) (all_keep kind bytes room log ps h parts.1)
+    ∙ ap (λ (x : CardsHeard). and_then (untouched p) x) (all_keep kind bytes room log ps h parts.1)
 
 -- what comes down of a block is one, or no good frame
 begins : (b : Block) → IsBlock (Some (spelled b))
@@ -183,6 +183,6 @@ by_arrival kind b _ bytes (Damaged x d) e =
     let same : x ≡ bytes = cc in
     subst (λ y. IsBlock (opened (wave_of_kind kind) y)) same (subst (λ y. IsBlock y) (sym d) tt)
 
-pub comes_block : (kind : CardKind) (b : Block) (leg : Leg) (bytes : List ℕ) → IsLeg leg → comes_down leg (wave_of_kind kind) (sealed (wave_of_kind kind) (spelled b)) ≡ Some bytes
+pub comes_block : (kind : CardKind) (b : Block) (leg : Way) (bytes : List ℕ) → IsLeg leg → comes_down leg (wave_of_kind kind) (sealed (wave_of_kind kind) (spelled b)) ≡ Some bytes
     → IsBlock (opened (wave_of_kind kind) bytes)
 comes_block kind b leg bytes l e = by_arrival kind b (comes_down leg (wave_of_kind kind) (sealed (wave_of_kind kind) (spelled b))) bytes (arrives leg (wave_of_kind kind) (sealed (wave_of_kind kind) (spelled b)) l (block_good kind b)) e

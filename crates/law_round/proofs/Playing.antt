@@ -1,12 +1,12 @@
 -- Over every field there is a round.
 use Rattle.std.proofs.Common.{◌≡◌, ℕ, zero, suc, ◌≤◌, true, false, Option, Some, sym, subst, refl, arith}
-use Rattle.ep_base.specs.Hearing.{Asked, Hearing, RoundEnd, Turn, Goes, Ends}
-use Rattle.ep_base.specs.Round.{Stage, Waking, round_asks, round_hears}
-use Rattle.ep_base.specs.Air.{next_fate}
-use Rattle.ep_base.specs.Medium.{told, Exchanges, ExchangesBy}
-use Rattle.ep_base.specs.Polling.{Plays}
-use Rattle.ep_base.specs.Wire.{comes_back}
-use Rattle.ep_base.specs.Field.{joined, Field, field_reset, field_hears, field_send, field}
+use Rattle.ep_base.specs.Air.Heard.{Ask, Heard, RoundEnd, Turn, Goes, Ends}
+use Rattle.ep_base.specs.Poll.Round.{Stage, Waking, round_asks, round_hears}
+use Rattle.ep_base.specs.Air.Fates.{next_fate}
+use Rattle.ep_base.specs.Air.Medium.{told, Exchanges, ExchangesBy}
+use Rattle.ep_base.specs.Poll.Polling.{Plays}
+use Rattle.ep_base.specs.Link.Wire.{comes_back}
+use Rattle.ep_base.specs.Cards.Field.{joined, Field, field_reset, field_hears, field_send, field}
 use Rattle.law_round.specs.Ending.{AlwaysPlays}
 use Rattle.law_round.proofs.Rounds.{Awake, stays_awake, no_reset}
 use Rattle.law_round.proofs.Counting.{left, Leveled, leaves, one_left}
@@ -15,13 +15,13 @@ module _ (fsdi : ℕ) where
   abbrev SomeRound : ℕ → Turn Stage → Field → Type 0
   SomeRound n turn s = (ending : Option RoundEnd) × (t : Field) × Plays (told field) fsdi n turn s ending t
 
-  abbrev heard_in : Stage → Field → Hearing
+  abbrev heard_in : Stage → Field → Heard
   heard_in stage f = comes_back (next_fate f.air.fates).up (joined (field_hears f (round_asks fsdi stage).wave (round_asks fsdi stage).bytes).answers)
 
   abbrev after_in : Stage → Field → Field
   after_in stage f = (field_send f (round_asks fsdi stage).wave (round_asks fsdi stage).bytes).1
 
-  exchanged : (ask : Asked) (f : Field) → ask.reset ≡ false → Exchanges (told field) f ask (field_send f ask.wave ask.bytes).0 (field_send f ask.wave ask.bytes).1
+  exchanged : (ask : Ask) (f : Field) → ask.reset ≡ false → Exchanges (told field) f ask (field_send f ask.wave ask.bytes).0 (field_send f ask.wave ask.bytes).1
   exchanged ask f e = subst (λ r. ExchangesBy (told field) r f ask (field_send f ask.wave ask.bytes).0 (field_send f ask.wave ask.bytes).1) (sym e) refl
 
   plays_on : (n : ℕ) (turn : Turn Stage) (f : Field) → Awake turn → Leveled turn → left turn ≤ n → SomeRound n turn f

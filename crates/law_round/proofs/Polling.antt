@@ -1,11 +1,11 @@
 -- Polling over a field.
 use Rattle.std.proofs.Common.{◌≡◌, ◌+◌, ◌≤◌, length, ◌≢◌, ℕ, zero, suc, List, [], ◌∷◌, Some, sym, ap, ◌∙◌, subst, refl}
-use Rattle.ep_base.specs.Hearing.{Activated, RoundEnd, Empty, Collision, Unsupported, Broken, Found}
-use Rattle.ep_base.specs.CardAnswer.{deselected}
-use Rattle.ep_base.specs.Medium.{told}
-use Rattle.ep_base.specs.Polling.{Polled, Came, NoCard, Device, AfterEnd, AfterRound, PlaysRound, PlaysRounds, card_in}
-use Rattle.ep_base.specs.Field.{outside_reset, Placed, Field, field}
-use Rattle.law_round.specs.Lawful.{Lawful, Face, faces, reset_faces}
+use Rattle.ep_base.specs.Air.Heard.{Activated, RoundEnd, Empty, Collision, Unsupported, Broken, Found}
+use Rattle.ep_base.specs.Cards.CardAnswer.{deselected}
+use Rattle.ep_base.specs.Air.Medium.{told}
+use Rattle.ep_base.specs.Poll.Polling.{Polled, Came, NoCard, Device, AfterEnd, AfterRound, PlaysRound, PlaysRounds, card_in}
+use Rattle.ep_base.specs.Cards.Field.{outside_reset, Placed, Field, field}
+use Rattle.ep_base.specs.Cards.Lawful.{Lawful, Face, faces, reset_faces}
 use Rattle.law_round.specs.Polled.{SameCards, EndsWithRound, PollsQuietly, PollsReady}
 use Rattle.law_round.proofs.Readying.{opens_wire_law}
 use Rattle.law_round.proofs.Linking.{keeps_cards_law}

@@ -10,14 +10,14 @@ use Rattle.ep_base.specs.declared.activation.Ats.{Ats}
 use Rattle.ep_base.specs.declared.activation.AtsFault.{AtsFault}
 use Rattle.ep_base.specs.declared.activation.Atqb.{Atqb}
 use Rattle.ep_base.specs.declared.activation.AtqbFault.{AtqbFault}
-use Rattle.ep_base.specs.Frame.{sealed, opened}
-use Rattle.ep_base.specs.Hearing.{Activated, Empty, Collision, Unsupported, Broken, Found, Fails, CardReply, Mute, Sends, Opens, Hearing, Silence, Noise, Overlap, Frame, Turn, Goes, Ends, framed, same_wave, says_opened, on_answer, awaited, is_silent}
-use Rattle.ep_base.specs.Activation.{ats, atqb, bit}
-use Rattle.ep_base.specs.FrameSize.{frame_size}
-use Rattle.ep_base.specs.TypeA.{AStage, Woken, Level, Select, Complete, sel, is_level, continues, a_says, a_hears, after_sak, after_ats, APlan, AState, Idle, Ready, Active, Protocol, Halted, levels, level_part, sak_of, ats_of, after_select, a_takes, a_opened, a_card}
-use Rattle.ep_base.specs.TypeB.{BStage, b_says, after_atqb}
-use Rattle.ep_base.specs.Round.{Stage, Waking, Halting, WakingB, InA, InB, round_asks, round_hears, in_a, in_b}
-use Rattle.law_round.specs.Lawful.{IsUid, Four, Seven, Ten}
+use Rattle.ep_base.specs.Air.Frame.{sealed, opened}
+use Rattle.ep_base.specs.Air.Heard.{Activated, Empty, Collision, Unsupported, Broken, Found, Fails, CardHear, Mute, Sends, Opens, Heard, Silence, Noise, Overlap, Frame, Turn, Goes, Ends, framed, same_wave, says_opened, on_answer, awaited, is_silent}
+use Rattle.ep_base.specs.Cards.Activation.{ats, atqb, bit}
+use Rattle.ep_base.specs.Air.FrameSize.{frame_size}
+use Rattle.ep_base.specs.Cards.TypeA.{AStage, Woken, Level, Select, Complete, sel, is_level, continues, a_says, a_hears, after_sak, after_ats, APlan, AState, Idle, Ready, Active, Protocol, Halted, levels, level_part, sak_of, ats_of, after_select, a_takes, a_opened, a_card}
+use Rattle.ep_base.specs.Cards.TypeB.{BStage, b_says, after_atqb}
+use Rattle.ep_base.specs.Poll.Round.{Stage, Waking, Halting, WakingB, InA, InB, round_asks, round_hears, in_a, in_b}
+use Rattle.ep_base.specs.Cards.Lawful.{IsUid, Four, Seven, Ten}
 use Rattle.law_round.proofs.Fitting.{Early, Begins, AtLevel, Chosen, NotOpen, FitsA, NextA, EndsA}
 use Rattle.rf_frame.proofs.Opening.{opened_sealed}
 
@@ -63,7 +63,7 @@ by_wave P next true None b f = b
 by_wave P next false o b f = b
 
 -- what holds after each way to hear an awaited answer
-pub answered : {S : Type 0} (P : Turn S → Type 0) (next : List ℕ → Turn S) (wave : Wave) (heard : Hearing)
+pub answered : {S : Type 0} (P : Turn S → Type 0) (next : List ℕ → Turn S) (wave : Wave) (heard : Heard)
     → P (Ends Broken) → P (Ends Collision) → ((m : List ℕ) → P (next m)) → P (on_answer next (awaited wave heard))
 answered P next wave Silence b c f = b
 answered P next wave Noise b c f = b
@@ -109,13 +109,13 @@ quiet_halted (Ends Broken) uid = tt
 quiet_halted (Ends (Found found)) uid = λ e. absurd cc
 
 -- WUPA makes it Ready
-woken_waking : (fsdi : ℕ) (p : APlan) (heard : Hearing) → NextA (round_hears Waking heard) p.uid (Ready 1)
+woken_waking : (fsdi : ℕ) (p : APlan) (heard : Heard) → NextA (round_hears Waking heard) p.uid (Ready 1)
 woken_waking fsdi p heard = either (λ st. FitsA st p.uid (Ready 1)) (is_silent heard) _ _ refl refl
 
 begins : (uid : List ℕ) → IsUid uid → Begins uid 1 [] 1
 begins uid u = record { same = refl; first = omega arith; last = one_level uid u; front = refl }
 
-woken_again : (p : APlan) (heard : Hearing) → IsUid p.uid → NextA (round_hears (InA Woken) heard) p.uid (Ready 1)
+woken_again : (p : APlan) (heard : Heard) → IsUid p.uid → NextA (round_hears (InA Woken) heard) p.uid (Ready 1)
 woken_again p heard u =
     answered (λ t. NextA (in_a t) p.uid (Ready 1)) (a_says Woken) ABare heard tt tt
     (λ m. either (λ t. NextA (in_a t) p.uid (Ready 1)) (length m == 2) _ _ (begins p.uid u) tt)
@@ -144,7 +144,7 @@ level_closed uid n before Halted e = tt
 
 pub halts : (p : APlan) (s : AState) → Early s → (a_card p s A (sealed A (0x50 ∷ 0 ∷ []))).0 ≡ Halted
 unfolding a_takes
-halts p s e = ap (λ (x : AState × CardReply). x.0) (takes p s A (sealed A (0x50 ∷ 0 ∷ [])) (0x50 ∷ 0 ∷ []) (early_closed s e) (opened_sealed A (0x50 ∷ 0 ∷ []) (omega arith)))
+halts p s e = ap (λ (x : AState × CardHear). x.0) (takes p s A (sealed A (0x50 ∷ 0 ∷ [])) (0x50 ∷ 0 ∷ []) (early_closed s e) (opened_sealed A (0x50 ∷ 0 ∷ []) (omega arith)))
 
 pub keeps_b : (p : APlan) (s : AState) (m : List ℕ) → NotOpen s → a_takes p s B m ≡ (s, Mute)
 unfolding a_takes
@@ -156,7 +156,7 @@ keeps_b p Active m o = refl
 
 keeps_opened : (p : APlan) (s : AState) (o : Option (List ℕ)) → NotOpen s → (a_opened p s B o).0 ≡ s
 keeps_opened p s None h = refl
-keeps_opened p s (Some m) h = ap (λ (x : AState × CardReply). x.0) (keeps_b p s m h)
+keeps_opened p s (Some m) h = ap (λ (x : AState × CardHear). x.0) (keeps_b p s m h)
 
 -- frames of Type B leave it as it is
 stays_b : (p : APlan) (s : AState) (bytes : List ℕ) → NotOpen s → (a_card p s B bytes).0 ≡ s
@@ -174,9 +174,9 @@ asked_level p Halted n before h = refl
 asked_level p Protocol n before h = absurd h
 asked_level p Active n before h = absurd h
 asked_level p (Ready level) n before h =
-    either (λ (x : AState × CardReply). x.0 ≡ Ready level) (bytes_eq (sel n ∷ 0x20 ∷ []) (sel level ∷ 0x20 ∷ [])) (Ready level, Sends (framed ABare (level_part p.uid level))) (Ready level, Mute) refl refl
+    either (λ (x : AState × CardHear). x.0 ≡ Ready level) (bytes_eq (sel n ∷ 0x20 ∷ []) (sel level ∷ 0x20 ∷ [])) (Ready level, Sends (framed ABare (level_part p.uid level))) (Ready level, Mute) refl refl
 
-pub skip : (a : Bool) (x y : AState × CardReply) → (if a && false then x else y) ≡ y
+pub skip : (a : Bool) (x y : AState × CardHear) → (if a && false then x else y) ≡ y
 skip true x y = refl
 skip false x y = refl
 
@@ -185,7 +185,7 @@ pub selected : (p : APlan) (n : ℕ) (part : List ℕ)
     → a_card p (Ready n) A (sealed A (sel n ∷ 0x70 ∷ part)) ≡ (if bytes_eq part (level_part p.uid n) then (after_select p n, Sends (framed A (sak_of p n ∷ []))) else (Idle, Mute))
 unfolding a_takes
 selected p n part =
-    let choice : AState × CardReply = (if bytes_eq part (level_part p.uid n) then (after_select p n, Sends (framed A (sak_of p n ∷ []))) else (Idle, Mute)) in
+    let choice : AState × CardHear = (if bytes_eq part (level_part p.uid n) then (after_select p n, Sends (framed A (sak_of p n ∷ []))) else (Idle, Mute)) in
     takes p (Ready n) A (sealed A (sel n ∷ 0x70 ∷ part)) (sel n ∷ 0x70 ∷ part) tt (opened_sealed A (sel n ∷ 0x70 ∷ part) (omega arith))
     ∙ skip (nat_eq (sel n) 0x50) (Halted, Mute) (if nat_eq (sel n) (sel n) && true then choice else (Ready n, Mute))
     ∙ ap (λ b. if b && true then choice else (Ready n, Mute)) (eq-eqb _ _ refl)
@@ -216,28 +216,28 @@ after_part p u n before part sak b e =
 pub same_part : (part own : List ℕ) → bytes_eq part own ≡ true → part ≡ own
 same_part part own h = (bytes_eq-Decides part own).0 h
 
-select_ready : (p : APlan) (u : IsUid p.uid) (n : ℕ) (before part : List ℕ) (heard : Hearing) → Begins p.uid n before n
+select_ready : (p : APlan) (u : IsUid p.uid) (n : ℕ) (before part : List ℕ) (heard : Heard) → Begins p.uid n before n
     → NextA (round_hears (InA (Select n before part)) heard) p.uid (a_card p (Ready n) A (sealed A (sel n ∷ 0x70 ∷ part))).0
 select_ready p u n before part heard b =
     let t = round_hears (InA (Select n before part)) heard in
-    subst (λ (x : AState × CardReply). NextA t p.uid x.0) (sym (selected p n part))
-    (when (λ (x : AState × CardReply). NextA t p.uid x.0) (bytes_eq part (level_part p.uid n)) (after_select p n, Sends (framed A (sak_of p n ∷ []))) (Idle, Mute)
+    subst (λ (x : AState × CardHear). NextA t p.uid x.0) (sym (selected p n part))
+    (when (λ (x : AState × CardHear). NextA t p.uid x.0) (bytes_eq part (level_part p.uid n)) (after_select p n, Sends (framed A (sak_of p n ∷ []))) (Idle, Mute)
     (λ e. answered (λ t. NextA (in_a t) p.uid (after_select p n)) (a_says (Select n before part)) A heard tt tt
     (λ m. either (λ t. NextA (in_a t) p.uid (after_select p n)) (length m == 1) _ _
     (after_part p u n before part (slice_index m 0) b (same_part part (level_part p.uid n) e)) tt))
     (λ e. quiet_idle (a_hears (Select n before part) heard) p.uid))
 
-select_a : (p : APlan) (u : IsUid p.uid) (s : AState) (n : ℕ) (before part : List ℕ) (heard : Hearing) → AtLevel p.uid n before s
+select_a : (p : APlan) (u : IsUid p.uid) (s : AState) (n : ℕ) (before part : List ℕ) (heard : Heard) → AtLevel p.uid n before s
     → NextA (round_hears (InA (Select n before part)) heard) p.uid (a_card p s A (sealed A (sel n ∷ 0x70 ∷ part))).0
 unfolding a_takes
 select_a p u Idle n before part heard h =
     let t = a_hears (Select n before part) heard in
-    subst (λ (x : AState × CardReply). NextA (in_a t) p.uid x.0) (sym (takes p Idle A (sealed A (sel n ∷ 0x70 ∷ part)) (sel n ∷ 0x70 ∷ part) tt (opened_sealed A (sel n ∷ 0x70 ∷ part) (omega arith))))
-    (either (λ (x : AState × CardReply). NextA (in_a t) p.uid x.0) (nat_eq (sel n) 0x50 && false) (Halted, Mute) (Idle, Mute) (quiet_halted t p.uid) (quiet_idle t p.uid))
+    subst (λ (x : AState × CardHear). NextA (in_a t) p.uid x.0) (sym (takes p Idle A (sealed A (sel n ∷ 0x70 ∷ part)) (sel n ∷ 0x70 ∷ part) tt (opened_sealed A (sel n ∷ 0x70 ∷ part) (omega arith))))
+    (either (λ (x : AState × CardHear). NextA (in_a t) p.uid x.0) (nat_eq (sel n) 0x50 && false) (Halted, Mute) (Idle, Mute) (quiet_halted t p.uid) (quiet_idle t p.uid))
 select_a p u Halted n before part heard h =
     let t = a_hears (Select n before part) heard in
-    subst (λ (x : AState × CardReply). NextA (in_a t) p.uid x.0) (sym (takes p Halted A (sealed A (sel n ∷ 0x70 ∷ part)) (sel n ∷ 0x70 ∷ part) tt (opened_sealed A (sel n ∷ 0x70 ∷ part) (omega arith))))
-    (either (λ (x : AState × CardReply). NextA (in_a t) p.uid x.0) (nat_eq (sel n) 0x50 && false) (Halted, Mute) (Halted, Mute) (quiet_halted t p.uid) (quiet_halted t p.uid))
+    subst (λ (x : AState × CardHear). NextA (in_a t) p.uid x.0) (sym (takes p Halted A (sealed A (sel n ∷ 0x70 ∷ part)) (sel n ∷ 0x70 ∷ part) tt (opened_sealed A (sel n ∷ 0x70 ∷ part) (omega arith))))
+    (either (λ (x : AState × CardHear). NextA (in_a t) p.uid x.0) (nat_eq (sel n) 0x50 && false) (Halted, Mute) (Halted, Mute) (quiet_halted t p.uid) (quiet_halted t p.uid))
 select_a p u Protocol n before part heard h = absurd h
 select_a p u Active n before part heard h = absurd h
 select_a p u (Ready level) n before part heard h =
@@ -252,22 +252,22 @@ still_active : (uid read : List ℕ) (r : Result Ats AtsFault) → NextA (in_a (
 still_active uid read (Ok a) = λ e. absurd cc
 still_active uid read (Err f) = tt
 
-complete_a : (fsdi : ℕ) (p : APlan) (s : AState) (read : List ℕ) (heard : Hearing) → Chosen p.uid read s
+complete_a : (fsdi : ℕ) (p : APlan) (s : AState) (read : List ℕ) (heard : Heard) → Chosen p.uid read s
     → NextA (round_hears (InA (Complete read)) heard) p.uid (a_card p s A (sealed A (0xe0 ∷ 16 * fsdi ∷ []))).0
 unfolding a_takes
 complete_a fsdi p Idle read heard h =
     let t = a_hears (Complete read) heard in
-    subst (λ (x : AState × CardReply). NextA (in_a t) p.uid x.0) (sym (takes p Idle A (sealed A (0xe0 ∷ 16 * fsdi ∷ [])) (0xe0 ∷ 16 * fsdi ∷ []) tt (opened_sealed A (0xe0 ∷ 16 * fsdi ∷ []) (omega arith)))) (quiet_idle t p.uid)
+    subst (λ (x : AState × CardHear). NextA (in_a t) p.uid x.0) (sym (takes p Idle A (sealed A (0xe0 ∷ 16 * fsdi ∷ [])) (0xe0 ∷ 16 * fsdi ∷ []) tt (opened_sealed A (0xe0 ∷ 16 * fsdi ∷ []) (omega arith)))) (quiet_idle t p.uid)
 complete_a fsdi p Halted read heard h =
     let t = a_hears (Complete read) heard in
-    subst (λ (x : AState × CardReply). NextA (in_a t) p.uid x.0) (sym (takes p Halted A (sealed A (0xe0 ∷ 16 * fsdi ∷ [])) (0xe0 ∷ 16 * fsdi ∷ []) tt (opened_sealed A (0xe0 ∷ 16 * fsdi ∷ []) (omega arith)))) (quiet_halted t p.uid)
+    subst (λ (x : AState × CardHear). NextA (in_a t) p.uid x.0) (sym (takes p Halted A (sealed A (0xe0 ∷ 16 * fsdi ∷ [])) (0xe0 ∷ 16 * fsdi ∷ []) tt (opened_sealed A (0xe0 ∷ 16 * fsdi ∷ []) (omega arith)))) (quiet_halted t p.uid)
 complete_a fsdi p (Ready level) read heard h = absurd h
 complete_a fsdi p Protocol read heard h = absurd h
 complete_a fsdi p Active read heard h =
     let t = a_hears (Complete read) heard in
     let m : List ℕ = 0xe0 ∷ 16 * fsdi ∷ [] in
-    subst (λ (x : AState × CardReply). NextA (in_a t) p.uid x.0) (sym (takes p Active A (sealed A m) m tt (opened_sealed A m (omega arith))))
-    (either (λ (x : AState × CardReply). NextA (in_a t) p.uid x.0) (nat_eq (16 * fsdi % 16) 0 && nat_eq (bit p.sak 32) 1) (Protocol, Opens (framed A (ats_of p)) (frame_size (16 * fsdi / 16))) (Active, Mute)
+    subst (λ (x : AState × CardHear). NextA (in_a t) p.uid x.0) (sym (takes p Active A (sealed A m) m tt (opened_sealed A m (omega arith))))
+    (either (λ (x : AState × CardHear). NextA (in_a t) p.uid x.0) (nat_eq (16 * fsdi % 16) 0 && nat_eq (bit p.sak 32) 1) (Protocol, Opens (framed A (ats_of p)) (frame_size (16 * fsdi / 16))) (Active, Mute)
     (answered (λ t. NextA (in_a t) p.uid Protocol) (a_says (Complete read)) A heard tt tt (λ m. opened_round p.uid read (ats m) h))
     (answered (λ t. NextA (in_a t) p.uid Active) (a_says (Complete read)) A heard tt tt (λ m. still_active p.uid read (ats m))))
 
@@ -282,19 +282,19 @@ found_b_next : (uid : List ℕ) (s : AState) (r : Result Atqb AtqbFault) → Not
 found_b_next uid s (Ok a) o = either (λ t. NextA (in_b t) uid s) a.iso4 _ _ o tt
 found_b_next uid s (Err e) o = tt
 
-waking_b : (p : APlan) (s : AState) (woke : Bool) (heard : Hearing) → Early s → NextA (round_hears (WakingB woke) heard) p.uid s
+waking_b : (p : APlan) (s : AState) (woke : Bool) (heard : Heard) → Early s → NextA (round_hears (WakingB woke) heard) p.uid s
 waking_b p s true heard h = either (λ t. NextA t p.uid s) (is_silent heard) _ _ h tt
 waking_b p s false heard h =
     either (λ t. NextA t p.uid s) (is_silent heard) _ _ tt
     (answered (λ t. NextA (in_b t) p.uid s) (λ m. after_atqb (atqb m)) B heard tt tt (λ m. found_b_next p.uid s (atqb m) (early_closed s h)))
 
-in_b_next : (p : APlan) (s : AState) (stage : BStage) (heard : Hearing) → NotOpen s → NextA (round_hears (InB stage) heard) p.uid s
+in_b_next : (p : APlan) (s : AState) (stage : BStage) (heard : Heard) → NotOpen s → NextA (round_hears (InB stage) heard) p.uid s
 in_b_next p s stage heard o =
     answered (λ t. NextA (in_b t) p.uid s) (b_says stage) B heard tt tt
     (λ m. either (λ t. NextA (in_b t) p.uid s) (nat_lt 0 (length m) && (slice_index m 0 % 16 == 0)) _ _ (closed_end (record { kind = kinds.B; id = stage.pupi; fsc = stage.fsc; fwi = stage.fwi }) p.uid s o) tt)
 
 -- a card of Type A that heard the reader's frame, whatever the reader hears then
-pub step_a : (fsdi : ℕ) (p : APlan) (u : IsUid p.uid) (stage : Stage) (s : AState) (heard : Hearing) → FitsA stage p.uid s
+pub step_a : (fsdi : ℕ) (p : APlan) (u : IsUid p.uid) (stage : Stage) (s : AState) (heard : Heard) → FitsA stage p.uid s
     → NextA (round_hears stage heard) p.uid (a_card p s (round_asks fsdi stage).wave (round_asks fsdi stage).bytes).0
 step_a fsdi p u Waking s heard h = subst (λ x. NextA (round_hears Waking heard) p.uid x) (sym (waking_state p s h)) (woken_waking fsdi p heard)
 step_a fsdi p u Halting s heard h = subst (λ x. NextA (round_hears Halting heard) p.uid x) (sym (halts p s h)) tt

@@ -6,12 +6,12 @@ use Rattle.std.proofs.Math.Seq.{take-append_seam}
 use Rattle.std.proofs.lemmas.Bool.{and_parts}
 use Rattle.ep_base.specs.declared.air.Wave.{Wave}
 use Rattle.ep_base.specs.declared.air.Wave.TheVariants.{AShort, ABare, A, B}
-use Rattle.ep_base.specs.Frame.{sealed, opened}
-use Rattle.ep_base.specs.Hearing.{RoundEnd, Empty, Collision, Unsupported, Broken, Found, CardReply, Mute, Sends, Opens, same_wave, Hearing, Turn, Goes, Ends, framed}
-use Rattle.ep_base.specs.FrameSize.{frame_size}
-use Rattle.ep_base.specs.TypeA.{Woken, Level, Select, Complete}
-use Rattle.ep_base.specs.TypeB.{BStage, attrib_of, b_says, BPlan, BState, BIdle, BReady, BProtocol, atqb_of, is_attrib, b_takes, b_opened, b_card}
-use Rattle.ep_base.specs.Round.{Stage, Waking, Halting, WakingB, InA, InB, round_asks, round_hears, in_b}
+use Rattle.ep_base.specs.Air.Frame.{sealed, opened}
+use Rattle.ep_base.specs.Air.Heard.{RoundEnd, Empty, Collision, Unsupported, Broken, Found, CardHear, Mute, Sends, Opens, same_wave, Heard, Turn, Goes, Ends, framed}
+use Rattle.ep_base.specs.Air.FrameSize.{frame_size}
+use Rattle.ep_base.specs.Cards.TypeA.{Woken, Level, Select, Complete}
+use Rattle.ep_base.specs.Cards.TypeB.{BStage, attrib_of, b_says, BPlan, BState, BIdle, BReady, BProtocol, atqb_of, is_attrib, b_takes, b_opened, b_card}
+use Rattle.ep_base.specs.Poll.Round.{Stage, Waking, Halting, WakingB, InA, InB, round_asks, round_hears, in_b}
 use Rattle.law_round.proofs.Fitting.{NotOpenB, NextB, EndsB}
 use Rattle.rf_frame.proofs.Opening.{opened_sealed}
 use Rattle.law_round.proofs.Presenting.{same_part, answered, either, when}
@@ -38,7 +38,7 @@ other_wave p s B m h = cc
 
 other_opened : (p : BPlan) (s : BState) (wave : Wave) (o : Option (List ℕ)) → same_wave wave B ≡ false → (b_opened p s wave o).0 ≡ s
 other_opened p s wave None h = refl
-other_opened p s wave (Some m) h = ap (λ (x : BState × CardReply). x.0) (other_wave p s wave m h)
+other_opened p s wave (Some m) h = ap (λ (x : BState × CardHear). x.0) (other_wave p s wave m h)
 
 -- frames of Type A leave it as it is
 stays : (p : BPlan) (s : BState) (wave : Wave) (bytes : List ℕ) → same_wave wave B ≡ false → NotOpenB s → (b_card p s wave bytes).0 ≡ s
@@ -70,22 +70,22 @@ its_own p pupi fsdi l h =
 
 attrib_idle : (p : BPlan) (m : List ℕ) (t : Turn Stage) → NextB t p.pupi (b_takes p BIdle B m).0
 unfolding b_takes
-attrib_idle p m t = either (λ (x : BState × CardReply). NextB t p.pupi x.0) (bytes_eq m (0x05 ∷ 0 ∷ 0x08 ∷ [])) (BReady, Sends (framed B (atqb_of p))) (BIdle, Mute) (quiet t p.pupi BReady tt) (quiet t p.pupi BIdle tt)
+attrib_idle p m t = either (λ (x : BState × CardHear). NextB t p.pupi x.0) (bytes_eq m (0x05 ∷ 0 ∷ 0x08 ∷ [])) (BReady, Sends (framed B (atqb_of p))) (BIdle, Mute) (quiet t p.pupi BReady tt) (quiet t p.pupi BIdle tt)
 
-attrib_ready : (fsdi : ℕ) (p : BPlan) (stage : BStage) (heard : Hearing) → length p.pupi ≡ 4
+attrib_ready : (fsdi : ℕ) (p : BPlan) (stage : BStage) (heard : Heard) → length p.pupi ≡ 4
     → NextB (round_hears (InB stage) heard) p.pupi (b_takes p BReady B (attrib_of stage.pupi fsdi)).0
 unfolding b_takes
 attrib_ready fsdi p stage heard l =
     let t = round_hears (InB stage) heard in
     let m = attrib_of stage.pupi fsdi in
-    let P : BState × CardReply → Type 0 = λ x. NextB t p.pupi x.0 in
+    let P : BState × CardHear → Type 0 = λ x. NextB t p.pupi x.0 in
     when P (is_attrib p.pupi m && p.iso4) (BProtocol, Opens (framed B (0 ∷ [])) (frame_size (slice_index m 6))) (BReady, Mute)
     (λ e. let own : stage.pupi ≡ p.pupi = its_own p stage.pupi fsdi l (and_parts (is_attrib p.pupi m) p.iso4 e).0 in
     answered (λ t. NextB (in_b t) p.pupi BProtocol) (b_says stage) B heard tt tt
     (λ x. either (λ t. NextB (in_b t) p.pupi BProtocol) (nat_lt 0 (length x) && (slice_index x 0 % 16 == 0)) _ _ (λ _. (refl, own)) tt))
     (λ e. quiet t p.pupi BReady tt)
 
-pub step_b : (fsdi : ℕ) (p : BPlan) (l : length p.pupi ≡ 4) (stage : Stage) (s : BState) (heard : Hearing) → NotOpenB s
+pub step_b : (fsdi : ℕ) (p : BPlan) (l : length p.pupi ≡ 4) (stage : Stage) (s : BState) (heard : Heard) → NotOpenB s
     → NextB (round_hears stage heard) p.pupi (b_card p s (round_asks fsdi stage).wave (round_asks fsdi stage).bytes).0
 step_b fsdi p l Waking s heard o = elsewhere p s (round_hears Waking heard) AShort _ refl o
 step_b fsdi p l Halting s heard o = elsewhere p s (round_hears Halting heard) A _ refl o

@@ -1,16 +1,16 @@
 -- After a round that ended with a card, its link is ready for a command.
 use Rattle.std.proofs.Common.{◌≡◌, ℕ, ◌+◌, ◌≤◌, true, false, List, [], ◌∷◌, ◌++◌, length, Some, sym, ap, ◌∙◌, subst, refl}
 use Rattle.ep_base.specs.declared.air.CardKind.{CardKind}
-use Rattle.ep_base.specs.Hearing.{Activated, Found}
-use Rattle.ep_base.specs.CardEnd.{Card, is_halted, fresh_card}
-use Rattle.ep_base.specs.CardAnswer.{IsImage}
-use Rattle.ep_base.specs.Dialogue as dialogue
-use Rattle.ep_base.specs.Medium.{told}
-use Rattle.ep_base.specs.Wire.{Party}
-use Rattle.ep_base.specs.Carry.{AtRest}
-use Rattle.ep_base.specs.Field.{Placed, field}
+use Rattle.ep_base.specs.Air.Heard.{Activated, Found}
+use Rattle.ep_base.specs.Link.CardEnd.{Card, is_halted, fresh_card}
+use Rattle.ep_base.specs.Cards.CardAnswer.{IsImage}
+use Rattle.ep_base.specs.Link.Dialogue as dialogue
+use Rattle.ep_base.specs.Air.Medium.{told}
+use Rattle.ep_base.specs.Link.Wire.{Party}
+use Rattle.ep_base.specs.Link.Carry.{AtRest}
+use Rattle.ep_base.specs.Cards.Field.{Placed, field}
 use Rattle.law_round.specs.Inside.{is_out, all_out}
-use Rattle.law_round.specs.Lawful.{IsPlaced, ArePlaced}
+use Rattle.ep_base.specs.Cards.Lawful.{IsPlaced, ArePlaced}
 use Rattle.law_round.specs.Linked.{HasLink}
 use Rattle.law_round.specs.Acting.{is_link, linked_at, are_passages, party_at, IsReady, OpensWire}
 use Rattle.std.proofs.lemmas.Bool.{and_parts}

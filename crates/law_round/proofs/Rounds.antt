@@ -5,21 +5,21 @@ use Rattle.ep_base.specs.declared.air.Wave.{Wave}
 use Rattle.ep_base.specs.declared.air.Wave.TheVariants.{ABare, A, B}
 use Rattle.ep_base.specs.declared.activation.Atqb.{Atqb}
 use Rattle.ep_base.specs.declared.activation.AtqbFault.{AtqbFault}
-use Rattle.ep_base.specs.Activation.{atqb, bit}
-use Rattle.ep_base.specs.Frame.{is_good}
-use Rattle.ep_base.specs.Hearing.{Asked, Hearing, Silence, RoundEnd, Empty, Collision, Unsupported, Broken, Found, Turn, Goes, Ends, is_silent}
-use Rattle.ep_base.specs.TypeA.{AStage, Woken, Level, Select, Complete, sel, hlta, is_level, continues, a_asks, a_says, a_hears, after_sak}
-use Rattle.ep_base.specs.TypeB.{BStage, wupb, attrib_of, after_atqb, b_found, b_hears}
-use Rattle.ep_base.specs.Round.{Stage, Waking, Halting, WakingB, InA, InB, round_asks, round_hears, in_a, in_b}
-use Rattle.ep_base.specs.Air.{Leg, Passes, Loses, Bursts, Leaves, IsLeg, next_fate, gone_by}
-use Rattle.ep_base.specs.Medium.{MediumSteps, told, Exchanges, ExchangesBy, AfterReset}
-use Rattle.ep_base.specs.Polling.{AfterExchange, Plays, PlaysRound}
-use Rattle.ep_base.specs.Wire.{comes_down, comes_back}
-use Rattle.ep_base.specs.Field.{Outside, OfA, OfB, outside_reset, Placed, Heard, joined, all_hear, left_by, leaves, away, is_present, placed_reset, all_reset, Field, field_reset, all_take, field_hears, field_send, field}
+use Rattle.ep_base.specs.Cards.Activation.{atqb, bit}
+use Rattle.ep_base.specs.Air.Frame.{is_good}
+use Rattle.ep_base.specs.Air.Heard.{Ask, Heard, Silence, RoundEnd, Empty, Collision, Unsupported, Broken, Found, Turn, Goes, Ends, is_silent}
+use Rattle.ep_base.specs.Cards.TypeA.{AStage, Woken, Level, Select, Complete, sel, hlta, is_level, continues, a_asks, a_says, a_hears, after_sak}
+use Rattle.ep_base.specs.Cards.TypeB.{BStage, wupb, attrib_of, after_atqb, b_found, b_hears}
+use Rattle.ep_base.specs.Poll.Round.{Stage, Waking, Halting, WakingB, InA, InB, round_asks, round_hears, in_a, in_b}
+use Rattle.ep_base.specs.Air.Fates.{Way, Passes, Loses, Bursts, Leaves, IsLeg, next_fate, gone_by}
+use Rattle.ep_base.specs.Air.Medium.{MediumSteps, told, Exchanges, ExchangesBy, AfterReset}
+use Rattle.ep_base.specs.Poll.Polling.{AfterExchange, Plays, PlaysRound}
+use Rattle.ep_base.specs.Link.Wire.{comes_down, comes_back}
+use Rattle.ep_base.specs.Cards.Field.{Outside, OfA, OfB, outside_reset, Placed, CardsHeard, joined, all_hear, left_by, leaves, away, is_present, placed_reset, all_reset, Field, field_reset, all_take, field_hears, field_send, field}
 use Rattle.rf_frame.proofs.Opening.{ends_sealed}
 use Rattle.law_wire.proofs.Passing.{next_legs}
 use Rattle.law_round.specs.Inside.{is_inside}
-use Rattle.law_round.specs.Lawful.{ArePlaced, Lawful, faces, reset_faces}
+use Rattle.ep_base.specs.Cards.Lawful.{ArePlaced, Lawful, faces, reset_faces}
 use Rattle.law_round.proofs.Arriving.{Arrival, Lost, Whole, Damaged, arrives}
 use Rattle.law_round.proofs.Fitting.{Next}
 use Rattle.law_round.proofs.Presenting.{either, answered}
@@ -84,7 +84,7 @@ sak_none n before part sak =
     either P (bit sak 4 == 1) _ _ (either P (continues n part) _ _ tt tt) (either P (continues n part) _ _ tt (either P (bit sak 32 == 1) _ _ tt tt))
 
 -- only the answer to RATS or ATTRIB ends a round with a card
-early_none : (stage : Stage) (heard : Hearing) → is_last stage ≡ false → NoCard (round_hears stage heard)
+early_none : (stage : Stage) (heard : Heard) → is_last stage ≡ false → NoCard (round_hears stage heard)
 early_none Waking heard l = tt
 early_none Halting heard l = tt
 early_none (WakingB true) heard l = either NoCard (is_silent heard) _ _ tt tt
@@ -100,7 +100,7 @@ early_none (InB stage) heard l = cc
 
 -- ---- one exchange
 
-pub silent_back : (u : Leg) → comes_back u Silence ≡ Silence
+pub silent_back : (u : Way) → comes_back u Silence ≡ Silence
 silent_back Passes = refl
 silent_back Loses = refl
 silent_back (Bursts start mask) = refl
@@ -132,17 +132,17 @@ module _ (fsdi : ℕ) (stage : Stage) where
   bytes = (round_asks fsdi stage).bytes
 
   -- what follows the cards' answers, by the fate of what they sent
-  abbrev follows : Leg → Heard → Turn Stage
+  abbrev follows : Way → CardsHeard → Turn Stage
   follows u h = round_hears stage (comes_back u (joined h.answers))
 
   -- the cards after a frame, whatever comes back of their answers
-  record Outcome (f : Field) (h : Heard) : Type 0 where
-    fits : (u : Leg) → AllFits fsdi (follows u h) h.cards
-    opens : (u : Leg) → HasOpen (follows u h) h.cards
+  record Outcome (f : Field) (h : CardsHeard) : Type 0 where
+    fits : (u : Way) → AllFits fsdi (follows u h) h.cards
+    opens : (u : Way) → HasOpen (follows u h) h.cards
     log : h.log ≡ f.log
     faces_stay : faces h.cards ≡ faces f.cards
 
-  abbrev unmoved : Field → Heard
+  abbrev unmoved : Field → CardsHeard
   unmoved f = record { cards = f.cards; log = f.log; answers = [] }
 
   nothing : (f : Field) → AllFits fsdi (Goes stage) f.cards → Outcome f (unmoved f)
@@ -153,13 +153,13 @@ module _ (fsdi : ℕ) (stage : Stage) where
     faces_stay = refl;
   }
 
-  by_answers : (u : Leg) (h : Heard) → (h.answers ≡ []) ⊎ AnyInside h.cards → HasOpen (follows u h) h.cards
+  by_answers : (u : Way) (h : CardsHeard) → (h.answers ≡ []) ⊎ AnyInside h.cards → HasOpen (follows u h) h.cards
   by_answers u h (inl none) =
       subst (λ l. HasOpen (round_hears stage (comes_back u (joined l))) h.cards) (sym none)
       (subst (λ x. HasOpen (round_hears stage x) h.cards) (sym (silent_back u)) (no_card_open (round_hears stage Silence) h.cards (silent_none stage)))
   by_answers u h (inr any) = any_open (follows u h) h.cards any
 
-  by_last : (u : Leg) (h : Heard) (last : Bool) → is_last stage ≡ last → (is_last stage ≡ true → (h.answers ≡ []) ⊎ AnyInside h.cards) → HasOpen (follows u h) h.cards
+  by_last : (u : Way) (h : CardsHeard) (last : Bool) → is_last stage ≡ last → (is_last stage ≡ true → (h.answers ≡ []) ⊎ AnyInside h.cards) → HasOpen (follows u h) h.cards
   by_last u h true e a = by_answers u h (a e)
   by_last u h false e a = no_card_open (follows u h) h.cards (early_none stage (comes_back u (joined h.answers)) e)
 
@@ -200,13 +200,13 @@ Fit fsdi turn f = Lawful f × Mode fsdi turn f.air.gone f.cards
 
 module _ (fsdi : ℕ) (stage : Stage) where
   -- what becomes of the cards with the fate of their answers
-  after_up : (f : Field) (u : Leg) (h : Heard) → Outcome fsdi stage f h → Mode fsdi (follows fsdi stage u h) (gone_by false u) (if leaves u then left_by h.cards else h.cards)
+  after_up : (f : Field) (u : Way) (h : CardsHeard) → Outcome fsdi stage f h → Mode fsdi (follows fsdi stage u h) (gone_by false u) (if leaves u then left_by h.cards else h.cards)
   after_up f Passes h o = (o.fits Passes, o.opens Passes)
   after_up f Loses h o = (o.fits Loses, o.opens Loses)
   after_up f (Bursts start mask) h o = (o.fits (Bursts start mask), o.opens (Bursts start mask))
   after_up f Leaves h o = (left_away h.cards, silent_none stage)
 
-  here_after : (f : Field) (d u : Leg) → IsLeg d → ArePlaced f.cards → AllFits fsdi (Goes stage) f.cards
+  here_after : (f : Field) (d u : Way) → IsLeg d → ArePlaced f.cards → AllFits fsdi (Goes stage) f.cards
       → let h = all_take f (wave fsdi stage) (comes_down d (wave fsdi stage) (bytes fsdi stage)) in
       Mode fsdi (follows fsdi stage u h) (gone_by (gone_by false d) u) (if leaves d || leaves u then left_by h.cards else h.cards)
   here_after f Passes u l c h = after_up f u _ (by_arrival fsdi stage f _ Whole c h)
@@ -215,7 +215,7 @@ module _ (fsdi : ℕ) (stage : Stage) where
       after_up f u _ (by_arrival fsdi stage f _ (arrives (Bursts start mask) (wave fsdi stage) (bytes fsdi stage) l (good_frame fsdi stage)) c h)
   here_after f Leaves u l c h = (left_away f.cards, subst (λ x. NoCard (round_hears stage x)) (sym (silent_back u)) (silent_none stage))
 
-  kept_here : (f : Field) (d : Leg) → IsLeg d → ArePlaced f.cards → AllFits fsdi (Goes stage) f.cards → Outcome fsdi stage f (all_take f (wave fsdi stage) (comes_down d (wave fsdi stage) (bytes fsdi stage)))
+  kept_here : (f : Field) (d : Way) → IsLeg d → ArePlaced f.cards → AllFits fsdi (Goes stage) f.cards → Outcome fsdi stage f (all_take f (wave fsdi stage) (comes_down d (wave fsdi stage) (bytes fsdi stage)))
   kept_here f d l c h = by_arrival fsdi stage f _ (arrives d (wave fsdi stage) (bytes fsdi stage) l (good_frame fsdi stage)) c h
 
   left_or : (gone : Bool) (ps qs : List Placed) → faces ps ≡ faces qs → faces (if gone then left_by ps else ps) ≡ faces qs
@@ -226,13 +226,13 @@ module _ (fsdi : ℕ) (stage : Stage) where
   away_or true ps a = left_away ps
   away_or false ps a = a
 
-  abbrev pub taken : Field → Heard
+  abbrev pub taken : Field → CardsHeard
   taken f = field_hears f (wave fsdi stage) (bytes fsdi stage)
 
   abbrev pub sent : Field → Field
   sent f = (field_send f (wave fsdi stage) (bytes fsdi stage)).1
 
-  abbrev pub heard : Field → Hearing
+  abbrev pub heard : Field → Heard
   heard f = comes_back (next_fate f.air.fates).up (joined (taken f).answers)
 
   pub by_gone : (f : Field) (gone : Bool) → Lawful f → Mode fsdi (Goes stage) gone f.cards
@@ -247,10 +247,10 @@ module _ (fsdi : ℕ) (stage : Stage) where
       let u = (next_fate f.air.fates).up in
       let e : taken f ≡ unmoved fsdi stage f = away_take fsdi stage f (comes_down (next_fate f.air.fates).down (wave fsdi stage) (bytes fsdi stage)) m.0 in (
         (
-          away_or (away (next_fate f.air.fates)) (taken f).cards (subst (λ (h : Heard). AllAway h.cards) (sym e) m.0),
-          subst (λ (h : Heard). NoCard (round_hears stage (comes_back u (joined h.answers)))) (sym e) (subst (λ x. NoCard (round_hears stage x)) (sym (silent_back u)) (silent_none stage)),
+          away_or (away (next_fate f.air.fates)) (taken f).cards (subst (λ (h : CardsHeard). AllAway h.cards) (sym e) m.0),
+          subst (λ (h : CardsHeard). NoCard (round_hears stage (comes_back u (joined h.answers)))) (sym e) (subst (λ x. NoCard (round_hears stage x)) (sym (silent_back u)) (silent_none stage)),
         ),
-        record { log = ap (λ (h : Heard). h.log) e; room = refl; faces_stay = left_or (away (next_fate f.air.fates)) (taken f).cards f.cards (ap (λ (h : Heard). faces h.cards) e) },
+        record { log = ap (λ (h : CardsHeard). h.log) e; room = refl; faces_stay = left_or (away (next_fate f.air.fates)) (taken f).cards f.cards (ap (λ (h : CardsHeard). faces h.cards) e) },
       )
 
   pub sends_fit : (f : Field) → Fit fsdi (Goes stage) f → Fit fsdi (round_hears stage (heard f)) (sent f) × Kept f (sent f)
@@ -281,7 +281,7 @@ awake_woken : (b : Bool) → Awake (Goes (if b then WakingB false else Halting))
 awake_woken true = tt
 awake_woken false = tt
 
-pub stays_awake : (stage : Stage) (heard : Hearing) → Awake (round_hears stage heard)
+pub stays_awake : (stage : Stage) (heard : Heard) → Awake (round_hears stage heard)
 stays_awake Waking heard = awake_woken (is_silent heard)
 stays_awake Halting heard = tt
 stays_awake (WakingB true) heard = either Awake (is_silent heard) _ _ tt tt
@@ -303,7 +303,7 @@ no_reset fsdi (InA stage) h = a_no_reset fsdi stage
 no_reset fsdi (InB stage) h = refl
 
 -- without a reset the exchange is one frame
-pub sends_only : {S : Type 0} (steps : MediumSteps S) (s : S) (ask : Asked) (heard : Option Hearing) (t : S) → ask.reset ≡ false → Exchanges steps s ask heard t
+pub sends_only : {S : Type 0} (steps : MediumSteps S) (s : S) (ask : Ask) (heard : Option Heard) (t : S) → ask.reset ≡ false → Exchanges steps s ask heard t
     → steps.sends s ask.wave ask.bytes ask.wait heard t
 sends_only steps s ask heard t e x = subst (λ r. ExchangesBy steps r s ask heard t) e x
 
@@ -327,15 +327,15 @@ module _ (fsdi : ℕ) where
   }
 
   -- after an exchange the rest of the round follows
-  rest_of : (n : ℕ) (stage : Stage) (f : Field) (h : Option Hearing) (u : Field) (ending : Option RoundEnd) (t : Field)
+  rest_of : (n : ℕ) (stage : Stage) (f : Field) (h : Option Heard) (u : Field) (ending : Option RoundEnd) (t : Field)
       → ((turn : Turn Stage) (g : Field) → Awake turn → Fit fsdi turn g → Plays (told field) fsdi n turn g ending t → Ended fsdi g ending t)
       → Fit fsdi (Goes stage) f → field_send f (wave fsdi stage) (bytes fsdi stage) ≡ (h, u)
       → AfterExchange (told field) fsdi (λ x. Plays (told field) fsdi n (round_hears stage x)) h u ending t → Ended fsdi f ending t
   rest_of n stage f h u ending t more fit sends rest =
       let x = sends_fit fsdi stage f fit in
       let g = sent fsdi stage f in
-      let heard_is : h ≡ Some (heard fsdi stage f) = sym (ap (λ (p : Option Hearing × Field). p.0) sends) in
-      let field_is : u ≡ g = sym (ap (λ (p : Option Hearing × Field). p.1) sends) in
+      let heard_is : h ≡ Some (heard fsdi stage f) = sym (ap (λ (p : Option Heard × Field). p.0) sends) in
+      let field_is : u ≡ g = sym (ap (λ (p : Option Heard × Field). p.1) sends) in
       let going : Plays (told field) fsdi n (round_hears stage (heard fsdi stage f)) g ending t =
       subst (λ o. AfterExchange (told field) fsdi (λ x. Plays (told field) fsdi n (round_hears stage x)) o g ending t) heard_is
       (subst (λ v. AfterExchange (told field) fsdi (λ x. Plays (told field) fsdi n (round_hears stage x)) h v ending t) field_is rest) in
@@ -392,7 +392,7 @@ module _ (fsdi : ℕ) where
   pub reset_fits : (s : Field) → Lawful s → Fit fsdi (Goes Waking) (field_reset s)
   reset_fits s l = (lawful_reset s l, reset_mode s.air.gone s.presence 1 s.cards)
 
-  pub first_sent : (s : Field) (well : Bool) (v : Field) (h : Option Hearing) (u : Field) → (told field).resets s well v → AfterReset (told field) well v (round_asks fsdi Waking) h u
+  pub first_sent : (s : Field) (well : Bool) (v : Field) (h : Option Heard) (u : Field) → (told field).resets s well v → AfterReset (told field) well v (round_asks fsdi Waking) h u
       → field_send (field_reset s) (wave fsdi Waking) (bytes fsdi Waking) ≡ (h, u)
   first_sent s well v h u e x =
       let well_is : well ≡ true = sym (ap (λ (p : Bool × Field). p.0) e) in

@@ -1,10 +1,10 @@
 -- A round in which one card is alone ends with it.
 use Rattle.std.proofs.Common.{◌≡◌, Some, ap, ◌∙◌}
-use Rattle.ep_base.specs.Hearing.{RoundEnd, Found, Turn, Goes, Ends}
-use Rattle.ep_base.specs.TypeA.{Idle}
-use Rattle.ep_base.specs.TypeB.{BIdle}
-use Rattle.ep_base.specs.Round.{Stage, Waking}
-use Rattle.ep_base.specs.Field.{OfA, OfB}
+use Rattle.ep_base.specs.Air.Heard.{RoundEnd, Found, Turn, Goes, Ends}
+use Rattle.ep_base.specs.Cards.TypeA.{Idle}
+use Rattle.ep_base.specs.Cards.TypeB.{BIdle}
+use Rattle.ep_base.specs.Poll.Round.{Stage, Waking}
+use Rattle.ep_base.specs.Cards.Field.{OfA, OfB}
 use Rattle.law_round.specs.Alone.{OneCardA, OneCardB, found_a, found_b}
 use Rattle.law_round.proofs.Lone.{solo, round_solo}
 use Rattle.law_round.proofs.SoloA.{by_uid}

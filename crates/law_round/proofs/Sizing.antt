@@ -6,14 +6,14 @@ use Rattle.ep_base.specs.declared.activation.Ats.{Ats}
 use Rattle.ep_base.specs.declared.activation.AtsFault.{AtsFault}
 use Rattle.ep_base.specs.declared.activation.Atqb.{Atqb}
 use Rattle.ep_base.specs.declared.activation.AtqbFault.{AtqbFault}
-use Rattle.ep_base.specs.FrameSize.{frame_size}
-use Rattle.ep_base.specs.Activation.{ats, atqb, bit, announced, ats_fwi}
-use Rattle.ep_base.specs.Hearing.{Hearing, Activated, RoundEnd, Empty, Collision, Unsupported, Broken, Found, Turn, Goes, Ends, is_silent}
-use Rattle.ep_base.specs.TypeA.{AStage, Woken, Level, Select, Complete, is_level, continues, a_says, after_sak, after_ats}
-use Rattle.ep_base.specs.TypeB.{b_says, after_atqb}
-use Rattle.ep_base.specs.Round.{Stage, Waking, Halting, WakingB, InA, InB, round_hears, in_a, in_b}
-use Rattle.ep_base.specs.Medium.{MediumSteps}
-use Rattle.ep_base.specs.Polling.{AfterExchange, Plays, PlaysRound}
+use Rattle.ep_base.specs.Air.FrameSize.{frame_size}
+use Rattle.ep_base.specs.Cards.Activation.{ats, atqb, bit, announced, ats_fwi}
+use Rattle.ep_base.specs.Air.Heard.{Heard, Activated, RoundEnd, Empty, Collision, Unsupported, Broken, Found, Turn, Goes, Ends, is_silent}
+use Rattle.ep_base.specs.Cards.TypeA.{AStage, Woken, Level, Select, Complete, is_level, continues, a_says, after_sak, after_ats}
+use Rattle.ep_base.specs.Cards.TypeB.{b_says, after_atqb}
+use Rattle.ep_base.specs.Poll.Round.{Stage, Waking, Halting, WakingB, InA, InB, round_hears, in_a, in_b}
+use Rattle.ep_base.specs.Air.Medium.{MediumSteps}
+use Rattle.ep_base.specs.Poll.Polling.{AfterExchange, Plays, PlaysRound}
 use Rattle.law_round.proofs.Presenting.{either, when, answered}
 
 abbrev pub IsSize : ℕ → Type 0
@@ -62,7 +62,7 @@ sak_sized n before part sak =
     let P : Turn AStage → Type 0 = λ t. Sized (in_a t) in
     either P (bit sak 4 == 1) _ _ (either P (continues n part) _ _ tt tt) (either P (continues n part) _ _ tt (either P (bit sak 32 == 1) _ _ tt tt))
 
-sized : (stage : Stage) (heard : Hearing) → Sized (Goes stage) → Sized (round_hears stage heard)
+sized : (stage : Stage) (heard : Heard) → Sized (Goes stage) → Sized (round_hears stage heard)
 sized Waking heard h = either (λ s. Sized (Goes s)) (is_silent heard) (WakingB false) Halting tt tt
 sized Halting heard h = tt
 sized (WakingB true) heard h = either Sized (is_silent heard) _ _ tt tt
@@ -79,7 +79,7 @@ sized (InB stage) heard h =
     (λ m. either (λ t. Sized (in_b t)) (nat_lt 0 (length m) && (slice_index m 0 % 16 == 0)) _ _ h tt)
 
 module _ {S : Type 0} (steps : MediumSteps S) (fsdi : ℕ) where
-  by_heard : (n : ℕ) (stage : Stage) (heard : Option Hearing) (u : S) (ending : Option RoundEnd) (t : S) (card : Activated) → Sized (Goes stage) → ending ≡ Some (Found card)
+  by_heard : (n : ℕ) (stage : Stage) (heard : Option Heard) (u : S) (ending : Option RoundEnd) (t : S) (card : Activated) → Sized (Goes stage) → ending ≡ Some (Found card)
       → ((turn : Turn Stage) → Sized turn → Plays steps fsdi n turn u ending t → IsSize card.fsc)
       → AfterExchange steps fsdi (λ h. Plays steps fsdi n (round_hears stage h)) heard u ending t → IsSize card.fsc
   by_heard n stage None u ending t card h e more x = absurd cc

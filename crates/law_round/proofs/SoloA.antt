@@ -4,25 +4,25 @@ use Rattle.std.proofs.lemmas.Bool.{lt-leb}
 use Rattle.std.specs.Prelude.{slice_index, not, Result}
 use Rattle.std.specs.Str.{bytes_eq}
 use Rattle.ep_base.specs.declared.air.Wave.TheVariants.{ABare, A, B}
-use Rattle.ep_base.specs.Hearing.{framed, Goes, Ends, says_opened, on_answer, RoundEnd, Broken, Unsupported, Found, CardReply, Mute, Sends, Opens}
-use Rattle.ep_base.specs.Activation.{ats, ats_fwi, bit, waiting, announced}
+use Rattle.ep_base.specs.Air.Heard.{framed, Goes, Ends, says_opened, on_answer, RoundEnd, Broken, Unsupported, Found, CardHear, Mute, Sends, Opens}
+use Rattle.ep_base.specs.Cards.Activation.{ats, ats_fwi, bit, waiting, announced}
 use Rattle.ep_base.specs.declared.activation.Ats.{Ats}
 use Rattle.ep_base.specs.declared.activation.AtsFault.{AtsFault}
-use Rattle.ep_base.specs.FrameSize.{frame_size}
-use Rattle.ep_base.specs.TypeA.{Woken, Level, Select, Complete, sel, bcc, is_level, continues, a_says, after_sak, after_ats, APlan, AState, Idle, Ready, Active, Protocol, Halted, atqa, level_part, sak_of, ats_of, after_select, a_takes, a_opened, a_card}
-use Rattle.ep_base.specs.Round.{Stage, Waking, Halting, WakingB, InA, round_asks, round_hears, in_a}
-use Rattle.ep_base.specs.Field.{Outside, OfA, joined}
-use Rattle.law_round.specs.Lawful.{IsUid, Four, Seven, Ten}
+use Rattle.ep_base.specs.Air.FrameSize.{frame_size}
+use Rattle.ep_base.specs.Cards.TypeA.{Woken, Level, Select, Complete, sel, bcc, is_level, continues, a_says, after_sak, after_ats, APlan, AState, Idle, Ready, Active, Protocol, Halted, atqa, level_part, sak_of, ats_of, after_select, a_takes, a_opened, a_card}
+use Rattle.ep_base.specs.Poll.Round.{Stage, Waking, Halting, WakingB, InA, round_asks, round_hears, in_a}
+use Rattle.ep_base.specs.Cards.Field.{Outside, OfA, joined}
+use Rattle.ep_base.specs.Cards.Lawful.{IsUid, Four, Seven, Ten}
 use Rattle.law_round.specs.Alone.{FollowsA, found_a}
 use Rattle.rf_frame.proofs.Opening.{same_bytes, opened_sealed}
 use Rattle.law_round.proofs.Lone.{sent, solo}
 
 -- one exchange in which the card does `x` with the message that its frame opens to
-pub by_message : (n fsdi : ℕ) (p : APlan) (s : AState) (stage : Stage) (o : Option (List ℕ)) (x : AState × CardReply)
+pub by_message : (n fsdi : ℕ) (p : APlan) (s : AState) (stage : Stage) (o : Option (List ℕ)) (x : AState × CardHear)
     → (a_card p s (round_asks fsdi stage).wave (round_asks fsdi stage).bytes) ≡ x
     → solo (suc n) fsdi (OfA p s) (Goes stage) ≡ solo n fsdi (OfA p x.0) (round_hears stage (joined (sent x.1)))
 unfolding solo
-by_message n fsdi p s stage o x e = ap (λ (y : AState × CardReply). solo n fsdi (OfA p y.0) (round_hears stage (joined (sent y.1)))) e
+by_message n fsdi p s stage o x e = ap (λ (y : AState × CardHear). solo n fsdi (OfA p y.0) (round_hears stage (joined (sent y.1)))) e
 
 -- WUPA after the reset, HLTA, WUPB, WUPA
 pub wakes : (n fsdi : ℕ) (p : APlan)
@@ -34,7 +34,7 @@ wakes n fsdi p =
     ∙ by_message (suc n) fsdi p Halted (WakingB true) None (Halted, Mute) (ap (λ o. a_opened p Halted B o) (opened_sealed B (0x05 ∷ 0 ∷ 0x08 ∷ []) (omega arith)))
     ∙ by_message n fsdi p Halted (InA Woken) None (Ready 1, Sends (framed ABare (atqa p.uid))) refl
 
-chooses : (a b c : Bool) (x y z v : AState × CardReply) → a ≡ false → b ≡ true → c ≡ true
+chooses : (a b c : Bool) (x y z v : AState × CardHear) → a ≡ false → b ≡ true → c ≡ true
     → (if a && false then x else (if b && true then (if c then y else z) else v)) ≡ y
 chooses false true true x y z v ha hb hc = refl
 chooses true b c x y z v ha hb hc = cc

@@ -2,31 +2,31 @@
 use Rattle.std.specs.Prelude.{◌≡◌, ℕ, zero, suc, ◌+◌, ◌≤◌, ◌^◌, nat_lt, ◌&&◌, Bool, true, false, not, if◌then◌else◌, List, [], ◌∷◌, ◌++◌, length, Option, Some, None}
 use Rattle.ep_base.specs.declared.air.CardKind.{CardKind}
 use Rattle.ep_base.specs.declared.air.CardKind.TheVariants as kinds
-use Rattle.ep_base.specs.FrameSize.{frame_size}
-use Rattle.ep_base.specs.Hearing.{Hearing, Activated, Found, same_kind}
-use Rattle.ep_base.specs.Block.{Block, same}
-use Rattle.ep_base.specs.CardEnd.{is_halted, fresh_card}
-use Rattle.ep_base.specs.Dialogue.{opened}
-use Rattle.ep_base.specs.LinkFrames.{LinkSetting}
-use Rattle.ep_base.specs.Air.{Leg, Passes, Loses, Bursts, Leaves, Passage}
-use Rattle.ep_base.specs.Medium.{told}
-use Rattle.ep_base.specs.Polling.{PlaysRound}
-use Rattle.ep_base.specs.Wire.{Party, Wire}
-use Rattle.ep_base.specs.Carry.{SendsBlock, ActsAs, AtRest, OfLink}
-use Rattle.ep_base.specs.Field.{Placed, Field, field}
+use Rattle.ep_base.specs.Air.FrameSize.{frame_size}
+use Rattle.ep_base.specs.Air.Heard.{Heard, Activated, Found, same_kind}
+use Rattle.ep_base.specs.Link.Block.{Block, same}
+use Rattle.ep_base.specs.Link.CardEnd.{is_halted}
+use Rattle.ep_base.specs.Link.Dialogue.{opened}
+use Rattle.ep_base.specs.Link.LinkFrames.{LinkSetting}
+use Rattle.ep_base.specs.Air.Fates.{Way, Passes, Loses, Bursts, Leaves, Fate}
+use Rattle.ep_base.specs.Air.Medium.{told}
+use Rattle.ep_base.specs.Poll.Polling.{PlaysRound}
+use Rattle.ep_base.specs.Link.Wire.{Party, Wire}
+use Rattle.ep_base.specs.Link.Carry.{SendsBlock, ActsAs, AtRest, OfLink}
+use Rattle.ep_base.specs.Cards.Field.{Placed, Field, field, no_party}
 use Rattle.law_round.specs.Inside.{is_inside, is_out, all_out}
-use Rattle.law_round.specs.Lawful.{kind_of, names, faces, Lawful}
+use Rattle.ep_base.specs.Cards.Lawful.{kind_of, names, faces, Lawful}
 use Rattle.law_round.specs.Linked.{HasLink}
 
 -- Whether a burst is one run of at most sixteen bits (this project's own).
-abbrev pub is_leg : Leg → Bool
+abbrev pub is_leg : Way → Bool
 is_leg Passes = true
 is_leg Loses = true
 is_leg (Bursts start mask) = nat_lt mask (2 ^ 16)
 is_leg Leaves = true
 
 -- Whether all bursts of these fates are (this project's own).
-abbrev pub are_passages : List Passage → Bool
+abbrev pub are_passages : List Fate → Bool
 are_passages [] = true
 are_passages (f ∷ fates) = is_leg f.down && (is_leg f.up && are_passages fates)
 
@@ -46,15 +46,6 @@ linked_at kind gone (suc n) (p ∷ ps) = is_out p.outside && linked_at kind gone
 -- Whether the field has an open link with the card after so many others, and lawful fates (this project's own).
 abbrev pub is_open : CardKind → ℕ → Field → Bool
 is_open kind n f = linked_at kind f.air.gone n f.cards && are_passages f.air.fates
-
--- An end of a link where there is none (this project's own).
-abbrev pub no_party : Party
-no_party = record {
-  kind = kinds.A;
-  fsd = 256;
-  card = fresh_card;
-  image = record { number = 0; ppse = record { list = []; used = 0 }; apps = []; selected = None };
-}
 
 -- The end of the link of the card after so many others (this project's own).
 abbrev pub party_at : ℕ → List Placed → Party
@@ -78,7 +69,7 @@ FieldActs = (set : LinkSetting) (n : ℕ) → ActsAs (told field) set (is_open s
 
 -- A block of the link leaves the other cards as they are, up to their presence, and each card's kind and identifier (this project's own).
 abbrev pub OthersStay : Type 0
-OthersStay = (set : LinkSetting) (n : ℕ) (b : Block) (heard : Option Hearing) (s t : Field) →
+OthersStay = (set : LinkSetting) (n : ℕ) (b : Block) (heard : Option Heard) (s t : Field) →
     is_open set.kind n s ≡ true → SendsBlock (told field) set s b heard t →
     (faces (without n t.cards) ≡ faces (without n s.cards)) × (names t.cards ≡ names s.cards)
 

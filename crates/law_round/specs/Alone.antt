@@ -1,16 +1,16 @@
 -- A poll round with one card (this project's own).
 use Rattle.std.specs.Prelude.{◌≡◌, ℕ, ◌<◌, ◌==◌, true, false, List, [], ◌∷◌, ◌++◌, length, Option, Some}
 use Rattle.ep_base.specs.declared.air.CardKind.TheVariants as kinds
-use Rattle.ep_base.specs.FrameSize.{frame_size}
-use Rattle.ep_base.specs.Hearing.{Activated, RoundEnd, Found}
-use Rattle.ep_base.specs.Activation.{bit, waiting}
-use Rattle.ep_base.specs.TypeA.{APlan, Idle}
-use Rattle.ep_base.specs.TypeB.{BPlan, BIdle}
-use Rattle.ep_base.specs.Air.{AllPass}
-use Rattle.ep_base.specs.Medium.{told}
-use Rattle.ep_base.specs.Polling.{PlaysRound}
-use Rattle.ep_base.specs.Field.{Outside, OfA, OfB, Placed, Field, field_reset, field}
-use Rattle.law_round.specs.Lawful.{IsUid, IsFour}
+use Rattle.ep_base.specs.Air.FrameSize.{frame_size}
+use Rattle.ep_base.specs.Air.Heard.{Activated, RoundEnd, Found}
+use Rattle.ep_base.specs.Cards.Activation.{bit, waiting}
+use Rattle.ep_base.specs.Cards.TypeA.{APlan, Idle}
+use Rattle.ep_base.specs.Cards.TypeB.{BPlan, BIdle}
+use Rattle.ep_base.specs.Air.Fates.{AllPass}
+use Rattle.ep_base.specs.Air.Medium.{told}
+use Rattle.ep_base.specs.Poll.Polling.{PlaysRound}
+use Rattle.ep_base.specs.Cards.Field.{Outside, OfA, OfB, Placed, Field, field_reset, field}
+use Rattle.ep_base.specs.Cards.Lawful.{IsUid, IsFour}
 
 -- A card of Type A that follows ISO/IEC 14443-4 (ISO/IEC 14443-3, -4).
 pub record FollowsA (p : APlan) : Type 0 where

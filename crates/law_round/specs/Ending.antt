@@ -1,14 +1,14 @@
 -- How long a poll round is (this project's own).
 use Rattle.std.specs.Prelude.{◌≡◌, ℕ, ◌≤◌, List, length, Option}
-use Rattle.ep_base.specs.Hearing.{Hearing, RoundEnd, Ends}
-use Rattle.ep_base.specs.Round.{round_after}
-use Rattle.ep_base.specs.Medium.{told}
-use Rattle.ep_base.specs.Polling.{PlaysRound}
-use Rattle.ep_base.specs.Field.{Field, field}
+use Rattle.ep_base.specs.Air.Heard.{Heard, RoundEnd, Ends}
+use Rattle.ep_base.specs.Poll.Round.{round_after}
+use Rattle.ep_base.specs.Air.Medium.{told}
+use Rattle.ep_base.specs.Poll.Polling.{PlaysRound}
+use Rattle.ep_base.specs.Cards.Field.{Field, field}
 
 -- Whatever is heard, a round is over after eleven answers at most (this project's profile).
 abbrev pub EndsInEleven : Type 0
-EndsInEleven = (answers : List Hearing) → 11 ≤ length answers → (e : RoundEnd) × (round_after answers ≡ Ends e)
+EndsInEleven = (answers : List Heard) → 11 ≤ length answers → (e : RoundEnd) × (round_after answers ≡ Ends e)
 
 -- Over every field there is a round (this project's own).
 abbrev pub AlwaysPlays : Type 0

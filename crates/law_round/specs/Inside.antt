@@ -1,8 +1,8 @@
 -- Which cards of a field are in the block protocol (this project's own).
 use Rattle.std.specs.Prelude.{nat_le, ◌&&◌, Bool, true, false, List, [], ◌∷◌}
-use Rattle.ep_base.specs.TypeA.{AState, Idle, Ready, Active, Protocol, Halted}
-use Rattle.ep_base.specs.TypeB.{BState, BIdle, BReady, BProtocol}
-use Rattle.ep_base.specs.Field.{Outside, OfA, OfB, Placed}
+use Rattle.ep_base.specs.Cards.TypeA.{AState, Idle, Ready, Active, Protocol, Halted}
+use Rattle.ep_base.specs.Cards.TypeB.{BState, BIdle, BReady, BProtocol}
+use Rattle.ep_base.specs.Cards.Field.{Outside, OfA, OfB, Placed}
 
 -- Whether a card of Type A is in the block protocol (ISO/IEC 14443-4).
 abbrev pub a_inside : AState → Bool

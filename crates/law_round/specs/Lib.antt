@@ -2,7 +2,6 @@ pub mod Acting
 pub mod Alone
 pub mod Ending
 pub mod Inside
-pub mod Lawful
 pub mod Linked
 pub mod Once
 pub mod Polled

@@ -1,13 +1,13 @@
 -- What a poll round leaves of a field (this project's own).
 use Rattle.std.specs.Prelude.{◌≡◌, ℕ, true, false, List, ◌∷◌, ◌++◌, Option, Some}
-use Rattle.ep_base.specs.FrameSize.{frame_size}
-use Rattle.ep_base.specs.Hearing.{Activated, RoundEnd, Found}
-use Rattle.ep_base.specs.Medium.{told}
-use Rattle.ep_base.specs.Polling.{PlaysRound}
-use Rattle.ep_base.specs.CardEnd.{fresh_card}
-use Rattle.ep_base.specs.Field.{Placed, Field, field}
+use Rattle.ep_base.specs.Air.FrameSize.{frame_size}
+use Rattle.ep_base.specs.Air.Heard.{Activated, RoundEnd, Found}
+use Rattle.ep_base.specs.Air.Medium.{told}
+use Rattle.ep_base.specs.Poll.Polling.{PlaysRound}
+use Rattle.ep_base.specs.Link.CardEnd.{fresh_card}
+use Rattle.ep_base.specs.Cards.Field.{Placed, Field, field}
 use Rattle.law_round.specs.Inside.{is_inside, all_out}
-use Rattle.law_round.specs.Lawful.{kind_of, id_of, Lawful, faces, reset_faces}
+use Rattle.ep_base.specs.Cards.Lawful.{kind_of, id_of, Lawful, faces, reset_faces}
 
 -- A card with a link that was just opened: it is the card that was found, is present and in the block protocol, and its end of the link is fresh,
 -- with the reader's frame size (ISO/IEC 14443-4).

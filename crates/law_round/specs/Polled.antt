@@ -1,11 +1,11 @@
 -- What polling leaves of a field (this project's own).
 use Rattle.std.specs.Prelude.{◌≡◌, ◌≢◌, ℕ, ◌+◌, ◌≤◌, List, length, Some}
-use Rattle.ep_base.specs.Hearing.{Activated, RoundEnd, Found}
-use Rattle.ep_base.specs.LinkFrames.{LinkSetting}
-use Rattle.ep_base.specs.Medium.{told}
-use Rattle.ep_base.specs.Polling.{Polled, Came, NoCard, Device, PlaysRound, PlaysRounds}
-use Rattle.ep_base.specs.Field.{Field, field}
-use Rattle.law_round.specs.Lawful.{Lawful, faces, reset_faces}
+use Rattle.ep_base.specs.Air.Heard.{Activated, RoundEnd, Found}
+use Rattle.ep_base.specs.Link.LinkFrames.{LinkSetting}
+use Rattle.ep_base.specs.Air.Medium.{told}
+use Rattle.ep_base.specs.Poll.Polling.{Polled, Came, NoCard, Device, PlaysRound, PlaysRounds}
+use Rattle.ep_base.specs.Cards.Field.{Field, field}
+use Rattle.ep_base.specs.Cards.Lawful.{Lawful, faces, reset_faces}
 use Rattle.law_round.specs.Acting.{OpensTo, IsSet}
 
 -- The log and its room stay, and so do the plans and images of the cards but for the selected applications (this project's own).

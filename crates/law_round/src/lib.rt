@@ -7,7 +7,7 @@
 ghost use Rattle.law_round.specs.Acting.{FieldActs, OpensWire, OthersStay};
 ghost use Rattle.law_round.specs.Alone.{OneCardA, OneCardB};
 ghost use Rattle.law_round.specs.Ending.{AlwaysPlays, EndsInEleven};
-ghost use Rattle.law_round.specs.Lawful.{BeginsLawful, StaysLawful};
+ghost use Rattle.ep_base.specs.Cards.Lawful.{BeginsLawful, StaysLawful};
 ghost use Rattle.law_round.specs.Linked.{KeepsCards, LinksOne};
 ghost use Rattle.law_round.specs.Once.{ClosesQuietly, LeavesOthers, OnceInField, StaysReady};
 ghost use Rattle.law_round.specs.Polled.{PollsQuietly, PollsReady};

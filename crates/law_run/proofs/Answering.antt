@@ -5,8 +5,8 @@ use Rattle.std.proofs.lemmas.List.{get_or_past}
 use Rattle.std.proofs.lemmas.List.Elements.{All-set}
 use Rattle.std.proofs.lemmas.Option.{unwrap_or-slice_get, slice_get_within, get_or_from_slice_get}
 use Rattle.std.specs.List.{starts_with}
-use Rattle.ep_base.specs.Apdu.{same_bytes, command_data, ppse_name, is_9000}
-use Rattle.ep_base.specs.CardAnswer.{Answered, Answers, Rule, App, Image, next_answer, app_answer, app_selected, app_with, rule_answer, rule_used, by_app, by_place, select_answer, ppse_answer, by_rule, by_rule_place, app_executes, in_app, other_answer, is_select, card_answer, file_not_found}
+use Rattle.ep_base.specs.Cards.Apdu.{same_bytes, command_data, ppse_name, is_9000}
+use Rattle.ep_base.specs.Cards.CardAnswer.{Answered, Answers, Rule, App, Image, next_answer, app_answer, app_selected, app_with, rule_answer, rule_used, by_app, by_place, select_answer, ppse_answer, by_rule, by_rule_place, app_executes, in_app, other_answer, is_select, card_answer, file_not_found}
 use Rattle.law_run.specs.ShortAnswers.{IsShort, AreShort, IsShortRule, IsShortApp, IsShortImage}
 
 short_at : (xs : List (List ℕ)) (k : ℕ) (d : List ℕ) → IsShort d → All IsShort xs → IsShort (get_or xs k d)

@@ -6,17 +6,17 @@ use Rattle.ep_base.specs.declared.outcome.OutcomeKind.{OutcomeKind}
 use Rattle.ep_base.specs.declared.outcome.OutcomeKind.TheVariants.{SelectNext, TryAgain, Approved, Declined, OnlineRequest, TryAnother, EndApplication}
 use Rattle.ep_base.specs.declared.outcome.Message.{Message}
 use Rattle.ep_base.specs.declared.outcome.Message.TheVariants.{PresentCard, InsertOrSwipe, OneCardOnly}
-use Rattle.ep_base.specs.Hearing.{Activated, RoundEnd, Empty, Collision, Unsupported, Broken, Found}
-use Rattle.ep_base.specs.PreProcessing.{Ready, any_allowed}
-use Rattle.ep_base.specs.Apdu.{is_9000}
-use Rattle.ep_base.specs.Directory.{directory}
-use Rattle.ep_base.specs.Candidates.{Candidate, candidates}
-use Rattle.ep_base.specs.Said.{Given, Verdict, Notice, Outcome, Finished}
-use Rattle.ep_base.specs.Kernel.{Move, Send, Done, KernelSteps}
-use Rattle.ep_base.specs.KernelCounts.{CountsFall, FallingCounts}
-use Rattle.ep_base.specs.Talk.{Talk, Over, Say, Poll, Command, Close, Round, Response, Closed, say_collision, by_end, rounds}
-use Rattle.ep_base.specs.EntryPoint.{start_b, say_message, after_kind, after_verdict, after_move, kernel_runs, activates, given_to, selects, start_c, presented, starts, say_ready, transaction}
-use Rattle.law_run.specs.Bounds.{AtMost, starts_left, AtMostStarts, log_bound, FewApdus}
+use Rattle.ep_base.specs.Air.Heard.{Activated, RoundEnd, Empty, Collision, Unsupported, Broken, Found}
+use Rattle.ep_rules.specs.EntryPoint.PreProcessing.{Ready, any_allowed}
+use Rattle.ep_base.specs.Cards.Apdu.{is_9000}
+use Rattle.ep_base.specs.Objects.Directory.{directory}
+use Rattle.ep_rules.specs.EntryPoint.Candidates.{Candidate, candidates}
+use Rattle.ep_rules.specs.EntryPoint.Event.{Activation, Verdict, Notice, Outcome, Finished}
+use Rattle.ep_rules.specs.EntryPoint.Kernel.{KernelStep, Send, Done, KernelSteps}
+use Rattle.ep_rules.specs.EntryPoint.KernelCounts.{CountsFall, FallingCounts}
+use Rattle.ep_rules.specs.EntryPoint.Talk.{Talk, Over, Say, Poll, Command, Close, Round, Response, Closed, say_collision, by_end, rounds}
+use Rattle.ep_rules.specs.EntryPoint.Transaction.{start_b, say_message, after_kind, after_verdict, after_move, kernel_runs, activates, given_to, selects, start_c, presented, starts, say_ready, transaction}
+use Rattle.ep_rules.specs.EntryPoint.Bounds.{AtMost, starts_left, AtMostStarts, log_bound, FewApdus}
 use Rattle.law_run.proofs.Picking.{few_lem}
 
 pub most_more : (talk : Talk) (m n : ℕ) → m ≤ n → AtMost m talk → AtMost n talk
@@ -81,7 +81,7 @@ module _ {S : Type 0} (k : KernelSteps S) (falls : FallingCounts k) where
 
   -- A kernel's commands come out of those that are left.
   module _ (next : Verdict → S → Talk) (rest : ℕ) (most : (v : Verdict) → Follows rest (next v)) where
-    move_most : (more : S → Option (List ℕ) → Talk) → ((last : Option (List ℕ)) → Follows rest (λ s. more s last)) → (s : S) (p : Move × S) → CountsFall k p.0 s p.1 → AtMost (rest + k.commands s) (after_move next more p)
+    move_most : (more : S → Option (List ℕ) → Talk) → ((last : Option (List ℕ)) → Follows rest (λ s. more s last)) → (s : S) (p : KernelStep × S) → CountsFall k p.0 s p.1 → AtMost (rest + k.commands s) (after_move next more p)
     move_most more h s ((Send command), t) fall =
         (omega (arith, fall.0), λ r short. most_more (more t (Some r)) (rest + k.commands t) (rest + k.commands s - 1) (omega (arith, fall.0)) (h (Some r) t))
     move_most more h s ((Done verdict), t) fall = most_more (next verdict t) (rest + k.commands t) (rest + k.commands s) (omega (arith, fall.0)) (most verdict t)
@@ -90,7 +90,7 @@ module _ {S : Type 0} (k : KernelSteps S) (falls : FallingCounts k) where
     kernel_most zero last s = tt
     kernel_most (suc n) last s = move_most (kernel_runs k next n) (λ l. kernel_most n l) s (k.step s last) (falls.step s last)
 
-    activates_most : (g : Given) → Follows rest (activates k next g)
+    activates_most : (g : Activation) → Follows rest (activates k next g)
     activates_most g s =
         let t = k.begin s g in
         let le = falls.begin_commands s g in
@@ -185,7 +185,7 @@ module _ {S : Type 0} (k : KernelSteps S) where
     verdict_starts : (more : S → Talk) → ((s : S) → AtMostStarts m (more s)) → (v : Verdict) (s : S) → AtMostStarts m (after_verdict again more v s)
     verdict_starts more h v s = message_starts v.message (after_kind again more v.kind s) (kind_starts more h v.kind s)
 
-    move_starts : (more : S → Talk) → ((s : S) → AtMostStarts m (more s)) → (go : S → Option (List ℕ) → Talk) → ((s : S) (last : Option (List ℕ)) → AtMostStarts m (go s last)) → (p : Move × S) → AtMostStarts m (after_move (after_verdict again more) go p)
+    move_starts : (more : S → Talk) → ((s : S) → AtMostStarts m (more s)) → (go : S → Option (List ℕ) → Talk) → ((s : S) (last : Option (List ℕ)) → AtMostStarts m (go s last)) → (p : KernelStep × S) → AtMostStarts m (after_move (after_verdict again more) go p)
     move_starts more h go g ((Send command), t) = λ r. g t (Some r)
     move_starts more h go g ((Done verdict), t) = verdict_starts more h verdict t
 

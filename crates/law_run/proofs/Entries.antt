@@ -2,10 +2,10 @@
 use Rattle.std.proofs.Common.{◌≡◌, ℕ, zero, suc, ◌+◌, ◌-◌, ◌*◌, ◌<◌, ◌≤◌, ◌==◌, ◌&&◌, nat_lt, nat_le, not, cond, Bool, true, false, List, [], ◌∷◌, length, take, drop, bit_and, refl, sym, ap, subst, ◌∙◌, arith, Some, None, Option}
 use Rattle.std.proofs.lemmas.Bool.{cond_both, leb-true, and_parts}
 use Rattle.std.proofs.lemmas.List.{length-take, length-take-le, length-drop}
-use Rattle.ep_base.specs.Objects.{Forest, nothing, padding, primitive, constructed, is_constructed, tag_number}
-use Rattle.ep_base.specs.Reading.{Tagged, third_tag, second_tag, tag_of, Lengthed, one_byte, two_bytes, length_of, with_padding, with_primitive, with_constructed, with_length, with_tag, forest_by, forest_of}
-use Rattle.ep_base.specs.Apdu.{data_of, is_9000}
-use Rattle.ep_base.specs.Directory.{Entry, first_value, first_inside, entry_of, entries_in, inside, entries_of, entries_at, entries_read, directory}
+use Rattle.ep_base.specs.Objects.Forest.{Forest, nothing, padding, primitive, constructed, is_constructed, tag_number}
+use Rattle.ep_base.specs.Objects.Reading.{Tagged, third_tag, second_tag, tag_of, Lengthed, one_byte, two_bytes, length_of, with_padding, with_primitive, with_constructed, with_length, with_tag, forest_by, forest_of}
+use Rattle.ep_base.specs.Cards.Apdu.{data_of, is_9000}
+use Rattle.ep_base.specs.Objects.Directory.{Entry, first_value, first_inside, entry_of, entries_in, inside, entries_of, entries_at, entries_read, directory}
 
 -- How many bytes the objects take at least, with one byte for a tag and one for a length.
 abbrev pub size : Forest → ℕ

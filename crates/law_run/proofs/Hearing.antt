@@ -1,10 +1,11 @@
 -- What became of a run: by recursion on the talk, each step adds its result and its events before those of the rest.
 use Rattle.std.proofs.Common.{◌≡◌, inl, inr, ℕ, Bool, true, false, List, [], ◌∷◌, ◌++◌, refl, sym, ap, subst, ◌∙◌, append_assoc}
-use Rattle.ep_base.specs.Hearing.{RoundEnd}
-use Rattle.ep_base.specs.Said.{Told, Said, Tells, Apdu, End, EndLink, EndBreach}
-use Rattle.ep_base.specs.Talk.{Talk, Over, Say, Poll, Command, Close, Result, Round, Response, Closed, Polls, Commands, Closes, Nothing, so_far}
-use Rattle.ep_base.specs.Transport.{TransportSteps, EventSteps, Presentation, Here, Nobody, Gone, Reply, Answered, Spent, Breached, Lost}
-use Rattle.ep_base.specs.TransportRun.{RunEnd, Ended, DeviceFailed, EventsFailed, Left, Leaves, Takes, Ends, AfterPresent, AfterReply, AfterClose, Runs, first_end, more_ends, HearEnd, Whole, AtLink, AtBreach, AtDevice, Hears, all_taken, said_for, end_said}
+use Rattle.ep_base.specs.Air.Heard.{RoundEnd}
+use Rattle.ep_rules.specs.EntryPoint.Event.{Told, Said, Tells, Apdu, End, EndLink, EndBreach}
+use Rattle.ep_rules.specs.EntryPoint.Talk.{Talk, Over, Say, Poll, Command, Close, Result, Round, Response, Closed, Polls, Commands, Closes, Nothing, so_far}
+use Rattle.ep_base.specs.Poll.Transport.{TransportSteps, Presentation, Here, Nobody, Gone, Reply, Answered, Spent, Breached, Lost}
+use Rattle.ep_rules.specs.EntryPoint.EventSteps.{EventSteps}
+use Rattle.ep_rules.specs.EntryPoint.TransportRun.{RunEnd, Ended, DeviceFailed, EventsFailed, Left, Leaves, Takes, Ends, AfterPresent, AfterReply, AfterClose, Runs, first_end, more_ends, HearEnd, Whole, AtLink, AtBreach, AtDevice, Hears, all_taken, said_for, end_said}
 use Rattle.law_run.specs.Heard.{Says, Wishes, HearsPart, RanBy, Hearing}
 
 pub all_taken_more : {E : Type 0} (take : E → Said → E) (e : E) (xs ys : List Said) → all_taken take e (xs ++ ys) ≡ all_taken take (all_taken take e xs) ys

@@ -6,16 +6,16 @@ use Rattle.ep_base.specs.declared.outcome.OutcomeKind.{OutcomeKind}
 use Rattle.ep_base.specs.declared.outcome.OutcomeKind.TheVariants.{SelectNext, TryAgain, Approved, Declined, OnlineRequest, TryAnother, EndApplication}
 use Rattle.ep_base.specs.declared.outcome.Message.{Message}
 use Rattle.ep_base.specs.declared.outcome.Message.TheVariants.{PresentCard, InsertOrSwipe, OneCardOnly}
-use Rattle.ep_base.specs.Hearing.{Activated, RoundEnd, Empty, Collision, Unsupported, Broken, Found}
-use Rattle.ep_base.specs.PreProcessing.{Ready, any_allowed}
-use Rattle.ep_base.specs.Apdu.{is_command, select, ppse_name, is_9000}
-use Rattle.ep_base.specs.Directory.{directory}
-use Rattle.ep_base.specs.Candidates.{Candidate, candidates, extended_name, final_command}
-use Rattle.ep_base.specs.Said.{Verdict, Notice, Outcome, Finished}
-use Rattle.ep_base.specs.Kernel.{Move, Send, Done, KernelSteps, Step, Script, Awaited, Running, script_for, without_script, begun, scripted, goes_on, answered, running_step}
-use Rattle.ep_base.specs.KernelCommands.{IsSent, Begins, Steps, SendsCommands, StepsSend, ScriptsSend, RunningSends, ScriptedSends}
-use Rattle.ep_base.specs.Talk.{Talk, Over, Say, IsLegal, is_found, say_collision, by_end, rounds}
-use Rattle.ep_base.specs.EntryPoint.{start_b, say_message, after_kind, after_verdict, after_move, kernel_runs, activates, given_to, selects, presented, starts, say_ready}
+use Rattle.ep_base.specs.Air.Heard.{Activated, RoundEnd, Empty, Collision, Unsupported, Broken, Found}
+use Rattle.ep_rules.specs.EntryPoint.PreProcessing.{Ready, any_allowed}
+use Rattle.ep_base.specs.Cards.Apdu.{is_command, select, ppse_name, is_9000}
+use Rattle.ep_base.specs.Objects.Directory.{directory}
+use Rattle.ep_rules.specs.EntryPoint.Candidates.{Candidate, candidates, extended_name, final_command}
+use Rattle.ep_rules.specs.EntryPoint.Event.{Verdict, Notice, Outcome, Finished}
+use Rattle.ep_rules.specs.EntryPoint.Kernel.{KernelStep, Send, Done, KernelSteps, Step, Script, Awaited, Running, script_for, without_script, begun, scripted, goes_on, answered, running_step}
+use Rattle.ep_rules.specs.EntryPoint.KernelCommands.{IsSent, Begins, Steps, SendsCommands, StepsSend, ScriptsSend, RunningSends, ScriptedSends}
+use Rattle.ep_rules.specs.EntryPoint.Talk.{Talk, Over, Say, IsLegal, is_found, say_collision, by_end, rounds}
+use Rattle.ep_rules.specs.EntryPoint.Transaction.{start_b, say_message, after_kind, after_verdict, after_move, kernel_runs, activates, given_to, selects, presented, starts, say_ready}
 use Rattle.law_run.specs.CandidateFacts.{IsCandidate}
 use Rattle.law_run.specs.Legality.{Passes, SendsOnly, SelectsPass, Legality, Legal, ScriptedLegal}
 use Rattle.law_run.proofs.Picking.{Each, each_candidate}
@@ -73,7 +73,7 @@ module _ (test : List ℕ → Bool) where
       verdict_legal more h v s g = message_legal v.message (after_kind again more v.kind s) (kind_legal more h v.kind s g)
 
       move_legal : (more : S → Talk) → AllLegal true more → (go : S → Option (List ℕ) → Talk) → ((last : Option (List ℕ)) → AllLegal true (λ s. go s last))
-          → (p : Move × S) → Passes test p.0 → Good p.1 → IsLegal test true (after_move (after_verdict again more) go p)
+          → (p : KernelStep × S) → Passes test p.0 → Good p.1 → IsLegal test true (after_move (after_verdict again more) go p)
       move_legal more h go l ((Send command), t) is g = (refl, is, λ r. l (Some r) t g)
       move_legal more h go l ((Done verdict), t) is g = verdict_legal more h verdict t g
 
@@ -112,7 +112,7 @@ legality_lem k test Good sent passes txn_type amount ones s g =
     (cond_both (any_allowed ones) (Say (Notice PresentCard) (starts k ones (k.restarts s) s)) (Say (Outcome TryAnother) (Say (Notice InsertOrSwipe) (Over Finished))) (IsLegal test false)
     (λ h. starts_legal test k Good sent passes ones (k.restarts s) s g) (λ h. tt))
 
-passed : (move : Move) → IsSent move → Passes is_command move
+passed : (move : KernelStep) → IsSent move → Passes is_command move
 passed (Send command) is = is
 passed (Done verdict) is = tt
 
@@ -142,7 +142,7 @@ script_sends kernel (s ∷ scripts) all =
       | false ↦ (more.0, (all.0, more.1))
     ]
 
-abbrev Goes : Move × Option Running → Type 0
+abbrev Goes : KernelStep × Option Running → Type 0
 Goes m = Passes is_command m.0 × RunningSends m.1
 
 goes_send : (verdict : Verdict) (steps : List Step) → StepsSend steps → Goes (goes_on verdict steps)

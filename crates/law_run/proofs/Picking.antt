@@ -4,10 +4,10 @@ use Rattle.std.specs.List.{starts_with}
 use Rattle.std.proofs.lemmas.Bool.{cond_both, leb-true, and_parts, both_ways}
 use Rattle.std.proofs.lemmas.List.Elements.{All-cons, All-nil}
 use Rattle.std.proofs.Math.Nat.{add-mul, mul-le-mul_right}
-use Rattle.ep_base.specs.Configuration.{Combination}
-use Rattle.ep_base.specs.PreProcessing.{Ready, is_allowed}
-use Rattle.ep_base.specs.Directory.{Entry, directory, is_name}
-use Rattle.ep_base.specs.Candidates.{Candidate, candidate_of, candidates, fits, fits_name, pairs_of, pairs_from, is_before, put_in, in_order, requested_by, asks_for, bytes_or_none}
+use Rattle.ep_rules.specs.EntryPoint.Configuration.{Combination}
+use Rattle.ep_rules.specs.EntryPoint.PreProcessing.{Ready, is_allowed}
+use Rattle.ep_base.specs.Objects.Directory.{Entry, directory, is_name}
+use Rattle.ep_rules.specs.EntryPoint.Candidates.{Candidate, candidate_of, candidates, fits, fits_name, pairs_of, pairs_from, is_before, put_in, in_order, requested_by, asks_for, bytes_or_none}
 use Rattle.law_run.specs.CandidateFacts.{IsCandidate}
 use Rattle.law_run.proofs.Entries.{is_named, named, directory_within}
 

@@ -2,16 +2,17 @@
 use Rattle.std.proofs.Common.{◌≡◌, inl, inr, ℕ, zero, suc, ◌+◌, ◌-◌, ◌<◌, ◌≤◌, nat_lt, cond, Bool, true, false, List, [], ◌∷◌, ◌++◌, length, replicate, refl, sym, ap, subst, ◌∙◌, append_assoc, arith, length-append, eq-eqb, sub-one, Some, None, Option}
 use Rattle.std.proofs.lemmas.Bool.{lt-ltb}
 use Rattle.std.proofs.lemmas.List.{append-nil}
-use Rattle.ep_base.specs.Hearing.{Activated, RoundEnd, Found}
-use Rattle.ep_base.specs.Said.{Told, Ending, Said, Tells, Apdu, End}
-use Rattle.ep_base.specs.Talk.{Talk, Over, Say, Poll, Command, Close, so_far, IsLegal}
-use Rattle.ep_base.specs.CardAnswer.{Image, card_answer, deselected}
-use Rattle.ep_base.specs.Transport.{EventSteps, Reply, Answered, Lost}
-use Rattle.ep_base.specs.TransportRun.{RunEnd, Ended, DeviceFailed, EventsFailed, Left, Leaves, Takes, AfterPresent, AfterReply, AfterClose, Runs, all_taken}
-use Rattle.ep_base.specs.Images.{Rules, stored}
-use Rattle.ep_base.specs.Perfect.{Channel, channel, presents, perfect, at_command}
-use Rattle.ep_base.specs.Direct.{Direct, direct, direct_reply, presented_anew, image_rules}
-use Rattle.law_run.specs.Bounds.{AtMost, AtMostStarts}
+use Rattle.ep_base.specs.Air.Heard.{Activated, RoundEnd, Found}
+use Rattle.ep_rules.specs.EntryPoint.Event.{Told, Ending, Said, Tells, Apdu, End}
+use Rattle.ep_rules.specs.EntryPoint.Talk.{Talk, Over, Say, Poll, Command, Close, so_far, IsLegal}
+use Rattle.ep_base.specs.Cards.CardAnswer.{Image, card_answer, deselected}
+use Rattle.ep_base.specs.Poll.Transport.{Reply, Answered, Lost}
+use Rattle.ep_rules.specs.EntryPoint.EventSteps.{EventSteps}
+use Rattle.ep_rules.specs.EntryPoint.TransportRun.{RunEnd, Ended, DeviceFailed, EventsFailed, Left, Leaves, Takes, AfterPresent, AfterReply, AfterClose, Runs, all_taken}
+use Rattle.ep_base.specs.Cards.Images.{Rules, stored}
+use Rattle.ep_rules.specs.EntryPoint.Perfect.{Channel, channel, presents, perfect, at_command}
+use Rattle.ep_base.specs.Cards.Direct.{Direct, direct, direct_reply, presented_anew, image_rules}
+use Rattle.ep_rules.specs.EntryPoint.Bounds.{AtMost, AtMostStarts}
 use Rattle.law_run.specs.ShortAnswers.{IsShortImage}
 use Rattle.law_run.specs.OverPerfect.{channel_after, channel_asked, PerfectBy, OverPerfect}
 use Rattle.law_run.proofs.Hearing.{all_taken_more}

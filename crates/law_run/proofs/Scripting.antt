@@ -3,10 +3,10 @@ use Rattle.std.proofs.Common.{◌≡◌, ◌==◌, ℕ, ◌+◌, add-zero, ◌<�
 use Rattle.std.proofs.lemmas.Bool.{cond_both}
 use Rattle.ep_base.specs.declared.outcome.OutcomeKind.{OutcomeKind}
 use Rattle.ep_base.specs.declared.outcome.OutcomeKind.TheVariants.{SelectNext, TryAgain, Approved, Declined, OnlineRequest, TryAnother, EndApplication}
-use Rattle.ep_base.specs.Apdu.{status_of}
-use Rattle.ep_base.specs.Said.{Verdict}
-use Rattle.ep_base.specs.Kernel.{Move, Done, Step, Script, Awaited, Running, Scripted, steps_left, running_left, running_count, script_for, without_script, begun, scripted, goes_on, answered, running_step}
-use Rattle.ep_base.specs.KernelCounts.{RestartsFall, CountsFall, FallingCounts}
+use Rattle.ep_base.specs.Cards.Apdu.{status_of}
+use Rattle.ep_rules.specs.EntryPoint.Event.{Verdict}
+use Rattle.ep_rules.specs.EntryPoint.Kernel.{KernelStep, Done, Step, Script, Awaited, Running, Scripted, steps_left, running_left, running_count, script_for, without_script, begun, scripted, goes_on, answered, running_step}
+use Rattle.ep_rules.specs.EntryPoint.KernelCounts.{RestartsFall, CountsFall, FallingCounts}
 use Rattle.law_run.specs.ScriptCounts.{ScriptsBound}
 
 fall_one : (kind : OutcomeKind) (m n : ℕ) → n < m → RestartsFall kind m n
@@ -21,7 +21,7 @@ fall_one EndApplication m n lt = omega arith
 abbrev at : List Script → Option Running → Scripted
 at scripts running = record { scripts = scripts; running = running }
 
-abbrev Falls : List Script → Option Running → Move × Option Running → Type 0
+abbrev Falls : List Script → Option Running → KernelStep × Option Running → Type 0
 Falls scripts running p = CountsFall scripted p.0 (at scripts running) (at scripts p.1)
 
 goes_at : (scripts : List Script) (r : Running) (v : Verdict) (steps : List Step) → r.steps ≡ steps → Falls scripts (Some r) (goes_on v steps)

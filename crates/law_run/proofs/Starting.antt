@@ -1,12 +1,13 @@
 -- A Start B over a transport: the rounds that a presentation answers.
 use Rattle.std.proofs.Common.{inl, inr, ℕ, zero, suc, Bool, true, false, [], replicate}
 use Rattle.ep_base.specs.declared.outcome.Message.TheVariants.{OneCardOnly}
-use Rattle.ep_base.specs.Hearing.{Activated, Empty}
-use Rattle.ep_base.specs.Said.{NoCard, Notice, Tells, End}
-use Rattle.ep_base.specs.Talk.{Talk, by_end, rounds}
-use Rattle.ep_base.specs.EntryPoint.{start_b}
-use Rattle.ep_base.specs.Transport.{TransportSteps, EventSteps, Presentation, Here, Nobody, Gone}
-use Rattle.ep_base.specs.TransportRun.{Left, Ends, AfterPresent, Runs, Onward}
+use Rattle.ep_base.specs.Air.Heard.{Activated, Empty}
+use Rattle.ep_rules.specs.EntryPoint.Event.{NoCard, Notice, Tells, End}
+use Rattle.ep_rules.specs.EntryPoint.Talk.{Talk, by_end, rounds}
+use Rattle.ep_rules.specs.EntryPoint.Transaction.{start_b}
+use Rattle.ep_base.specs.Poll.Transport.{TransportSteps, Presentation, Here, Nobody, Gone}
+use Rattle.ep_rules.specs.EntryPoint.EventSteps.{EventSteps}
+use Rattle.ep_rules.specs.EntryPoint.TransportRun.{Left, Ends, AfterPresent, Runs, Onward}
 use Rattle.law_run.specs.StartB.{AfterStartB, StartsB}
 
 module _ {T E : Type 0} (link : TransportSteps T) (events : EventSteps E) (next : Activated → Talk) where

@@ -1,14 +1,14 @@
 -- A transaction over the perfect channel is its perfect run.
 use Rattle.std.proofs.Common.{◌≡◌, ℕ, ◌+◌, ◌≤◌, true, false, List, length, refl}
-use Rattle.ep_base.specs.PreProcessing.{Ready}
-use Rattle.ep_base.specs.CardAnswer.{Image}
-use Rattle.ep_base.specs.Kernel.{Move, Send, Done, KernelSteps}
-use Rattle.ep_base.specs.KernelCounts.{FallingCounts}
-use Rattle.ep_base.specs.Talk.{IsLegal}
-use Rattle.ep_base.specs.EntryPoint.{transaction}
-use Rattle.ep_base.specs.Transport.{EventSteps}
-use Rattle.ep_base.specs.Direct.{Direct}
-use Rattle.law_run.specs.Bounds.{log_bound}
+use Rattle.ep_rules.specs.EntryPoint.PreProcessing.{Ready}
+use Rattle.ep_base.specs.Cards.CardAnswer.{Image}
+use Rattle.ep_rules.specs.EntryPoint.Kernel.{KernelStep, Send, Done, KernelSteps}
+use Rattle.ep_rules.specs.EntryPoint.KernelCounts.{FallingCounts}
+use Rattle.ep_rules.specs.EntryPoint.Talk.{IsLegal}
+use Rattle.ep_rules.specs.EntryPoint.Transaction.{transaction}
+use Rattle.ep_rules.specs.EntryPoint.EventSteps.{EventSteps}
+use Rattle.ep_base.specs.Cards.Direct.{Direct}
+use Rattle.ep_rules.specs.EntryPoint.Bounds.{log_bound}
 use Rattle.law_run.specs.Legality.{Passes, SendsOnly, SelectsPass}
 use Rattle.law_run.specs.ShortAnswers.{IsShortImage}
 use Rattle.law_run.specs.OverPerfect.{Carries, TransactionOverPerfect}
@@ -16,7 +16,7 @@ use Rattle.law_run.proofs.Bounding.{starts_more, few_commands_lem, few_starts_le
 use Rattle.law_run.proofs.Legal.{legality_lem}
 use Rattle.law_run.proofs.Playing.{perfect_lem}
 
-any_sent : (move : Move) → Passes (λ command. true) move
+any_sent : (move : KernelStep) → Passes (λ command. true) move
 any_sent (Send command) = refl
 any_sent (Done verdict) = tt
 

@@ -1,10 +1,11 @@
 -- What became of a run: the results that the transport gave, and which of the talk's events for them were taken (this project's own).
 use Rattle.std.specs.Prelude.{◌≡◌, ◌≢◌, ◌⊎◌, ℕ, Bool, List, [], ◌∷◌, ◌++◌}
-use Rattle.ep_base.specs.Hearing.{RoundEnd}
-use Rattle.ep_base.specs.Said.{Ending, Said, End, EndLink, EndBreach}
-use Rattle.ep_base.specs.Talk.{Talk, Over, Say, Poll, Command, Close, Result, Round, Wish, Commands, Nothing, so_far}
-use Rattle.ep_base.specs.Transport.{TransportSteps, EventSteps, Presentation, Reply}
-use Rattle.ep_base.specs.TransportRun.{RunEnd, Ended, DeviceFailed, EventsFailed, Left, Runs, HearEnd, Whole, AtLink, AtBreach, AtDevice, Hears, HearsPresent, HearsReply, HearsClose, all_taken, said_for}
+use Rattle.ep_base.specs.Air.Heard.{RoundEnd}
+use Rattle.ep_rules.specs.EntryPoint.Event.{Ending, Said, End, EndLink, EndBreach}
+use Rattle.ep_rules.specs.EntryPoint.Talk.{Talk, Over, Say, Poll, Command, Close, Result, Round, Wish, Commands, Nothing, so_far}
+use Rattle.ep_base.specs.Poll.Transport.{TransportSteps, Presentation, Reply}
+use Rattle.ep_rules.specs.EntryPoint.EventSteps.{EventSteps}
+use Rattle.ep_rules.specs.EntryPoint.TransportRun.{RunEnd, Ended, DeviceFailed, EventsFailed, Left, Runs, HearEnd, Whole, AtLink, AtBreach, AtDevice, Hears, HearsPresent, HearsReply, HearsClose, all_taken, said_for}
 
 -- The last event, by what ended the hearing.
 abbrev pub Says : HearEnd → Said → Type 0

@@ -1,22 +1,22 @@
 -- A transaction sends commands alone, and these to a card that was found and not closed (this project's own).
 use Rattle.std.specs.Prelude.{◌≡◌, ℕ, ◌≤◌, Bool, true, false, List, length}
 use Rattle.std.specs.declared.option.Option.{Option}
-use Rattle.ep_base.specs.Apdu.{is_command, select, ppse_name}
-use Rattle.ep_base.specs.PreProcessing.{Ready}
-use Rattle.ep_base.specs.Said.{Given}
-use Rattle.ep_base.specs.Kernel.{Move, Send, Done, KernelSteps, Scripted, scripted}
-use Rattle.ep_base.specs.KernelCommands.{SendsCommands, ScriptedSends}
-use Rattle.ep_base.specs.Talk.{IsLegal}
-use Rattle.ep_base.specs.EntryPoint.{transaction}
+use Rattle.ep_base.specs.Cards.Apdu.{is_command, select, ppse_name}
+use Rattle.ep_rules.specs.EntryPoint.PreProcessing.{Ready}
+use Rattle.ep_rules.specs.EntryPoint.Event.{Activation}
+use Rattle.ep_rules.specs.EntryPoint.Kernel.{KernelStep, Send, Done, KernelSteps, Scripted, scripted}
+use Rattle.ep_rules.specs.EntryPoint.KernelCommands.{SendsCommands, ScriptedSends}
+use Rattle.ep_rules.specs.EntryPoint.Talk.{IsLegal}
+use Rattle.ep_rules.specs.EntryPoint.Transaction.{transaction}
 
 -- What a kernel sends passes the test.
-abbrev pub Passes : (List ℕ → Bool) → Move → Type 0
+abbrev pub Passes : (List ℕ → Bool) → KernelStep → Type 0
 Passes test (Send command) = test command ≡ true
 Passes test (Done verdict) = Unit {0}
 
 -- From a good state on, kernels send nothing but what passes the test.
 pub record SendsOnly {S : Type 0} (test : List ℕ → Bool) (Good : S → Type 0) (k : KernelSteps S) : Type 0 where
-  pub begin_good : (s : S) (g : Given) → Good s → Good (k.begin s g)
+  pub begin_good : (s : S) (g : Activation) → Good s → Good (k.begin s g)
   pub step_good : (s : S) (last : Option (List ℕ)) → Good s → Good (k.step s last).1
   pub sends : (s : S) (last : Option (List ℕ)) → Good s → Passes test (k.step s last).0
 

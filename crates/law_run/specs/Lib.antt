@@ -1,4 +1,3 @@
-pub mod Bounds
 pub mod CandidateFacts
 pub mod Heard
 pub mod Legality

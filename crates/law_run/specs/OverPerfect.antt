@@ -1,20 +1,20 @@
 -- What became of a run over the perfect channel: the events and the commands of the perfect run (this project's own).
 use Rattle.std.specs.Prelude.{◌≡◌, ℕ, ◌+◌, ◌≤◌, true, false, List, [], ◌∷◌, ◌++◌, length, replicate, Some, None}
 use Rattle.std.specs.declared.option.Option.{Option}
-use Rattle.ep_base.specs.Hearing.{RoundEnd, Found}
-use Rattle.ep_base.specs.Said.{Ending, Said, End}
-use Rattle.ep_base.specs.Talk.{Talk, Over, Say, Poll, Command, Close, IsLegal}
-use Rattle.ep_base.specs.CardAnswer.{Image}
-use Rattle.ep_base.specs.PreProcessing.{Ready}
-use Rattle.ep_base.specs.Kernel.{KernelSteps}
-use Rattle.ep_base.specs.KernelCounts.{FallingCounts}
-use Rattle.ep_base.specs.EntryPoint.{transaction}
-use Rattle.ep_base.specs.Transport.{EventSteps}
-use Rattle.ep_base.specs.TransportRun.{RunEnd, Ended, DeviceFailed, EventsFailed, Left, Runs, all_taken}
-use Rattle.ep_base.specs.Images.{Rules, stored}
-use Rattle.ep_base.specs.Perfect.{Channel, channel, presents, perfect, perfect_events}
-use Rattle.ep_base.specs.Direct.{Direct, direct, image_rules}
-use Rattle.law_run.specs.Bounds.{AtMost, AtMostStarts, log_bound}
+use Rattle.ep_base.specs.Air.Heard.{RoundEnd, Found}
+use Rattle.ep_rules.specs.EntryPoint.Event.{Ending, Said, End}
+use Rattle.ep_rules.specs.EntryPoint.Talk.{Talk, Over, Say, Poll, Command, Close, IsLegal}
+use Rattle.ep_base.specs.Cards.CardAnswer.{Image}
+use Rattle.ep_rules.specs.EntryPoint.PreProcessing.{Ready}
+use Rattle.ep_rules.specs.EntryPoint.Kernel.{KernelSteps}
+use Rattle.ep_rules.specs.EntryPoint.KernelCounts.{FallingCounts}
+use Rattle.ep_rules.specs.EntryPoint.Transaction.{transaction}
+use Rattle.ep_rules.specs.EntryPoint.EventSteps.{EventSteps}
+use Rattle.ep_rules.specs.EntryPoint.TransportRun.{RunEnd, Ended, DeviceFailed, EventsFailed, Left, Runs, all_taken}
+use Rattle.ep_base.specs.Cards.Images.{Rules, stored}
+use Rattle.ep_rules.specs.EntryPoint.Perfect.{Channel, channel, presents, perfect, perfect_events}
+use Rattle.ep_base.specs.Cards.Direct.{Direct, direct, image_rules}
+use Rattle.ep_rules.specs.EntryPoint.Bounds.{AtMost, AtMostStarts, log_bound}
 use Rattle.law_run.specs.ShortAnswers.{IsShortImage}
 
 module _ {S : Type 0} (rules : Rules S) where

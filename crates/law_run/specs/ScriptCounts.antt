@@ -1,7 +1,7 @@
 -- The counts of kernels that follow scripts (this project's own).
 use Rattle.std.specs.Prelude.{◌≡◌, ℕ, ◌+◌, ◌*◌, List, length, None}
-use Rattle.ep_base.specs.Kernel.{Script, Scripted, scripted, steps_left}
-use Rattle.law_run.specs.Bounds.{log_bound}
+use Rattle.ep_rules.specs.EntryPoint.Kernel.{Script, Scripted, scripted, steps_left}
+use Rattle.ep_rules.specs.EntryPoint.Bounds.{log_bound}
 
 -- Before the first activation.
 abbrev pub scripts_at_first : List Script → Scripted

@@ -1,6 +1,6 @@
 -- Card images all of whose responses have at most 258 bytes (the length is this project's profile).
 use Rattle.std.specs.Prelude.{ℕ, ◌≤◌, List, length, All}
-use Rattle.ep_base.specs.CardAnswer.{Answers, Rule, App, Image}
+use Rattle.ep_base.specs.Cards.CardAnswer.{Answers, Rule, App, Image}
 
 abbrev pub IsShort : List ℕ → Type 0
 IsShort response = length response ≤ 258

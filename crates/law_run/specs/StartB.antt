@@ -1,12 +1,13 @@
 -- A Start B over a transport, whose presentation answers all its polls (this project's own).
 use Rattle.std.specs.Prelude.{true, false, [], ◌↔◌}
 use Rattle.ep_base.specs.declared.outcome.Message.TheVariants.{OneCardOnly}
-use Rattle.ep_base.specs.Hearing.{Activated}
-use Rattle.ep_base.specs.Said.{NoCard, Notice, Tells, End}
-use Rattle.ep_base.specs.Talk.{Talk}
-use Rattle.ep_base.specs.EntryPoint.{start_b}
-use Rattle.ep_base.specs.Transport.{TransportSteps, EventSteps, Presentation, Here, Nobody, Gone}
-use Rattle.ep_base.specs.TransportRun.{DeviceFailed, Left, Leaves, Takes, Ends, Runs}
+use Rattle.ep_base.specs.Air.Heard.{Activated}
+use Rattle.ep_rules.specs.EntryPoint.Event.{NoCard, Notice, Tells, End}
+use Rattle.ep_rules.specs.EntryPoint.Talk.{Talk}
+use Rattle.ep_rules.specs.EntryPoint.Transaction.{start_b}
+use Rattle.ep_base.specs.Poll.Transport.{TransportSteps, Presentation, Here, Nobody, Gone}
+use Rattle.ep_rules.specs.EntryPoint.EventSteps.{EventSteps}
+use Rattle.ep_rules.specs.EntryPoint.TransportRun.{DeviceFailed, Left, Leaves, Takes, Ends, Runs}
 
 module _ {T E : Type 0} (link : TransportSteps T) (events : EventSteps E) (next : Activated → Talk) where
   -- After a presentation: the message where some round collided, and then the card's talk or the end without a card.

@@ -4,14 +4,15 @@
 #![tactic(auto)]
 
 ghost use Rattle.std.specs.Prelude.{ℕ, ◌+◌, ◌*◌, ◌≤◌, List, length, All};
-ghost use Rattle.ep_base.specs.Candidates.{candidates};
-ghost use Rattle.ep_base.specs.Directory.{Entry, directory};
-ghost use Rattle.ep_base.specs.EntryPoint.{transaction};
-ghost use Rattle.ep_base.specs.Kernel.{KernelSteps, scripted};
-ghost use Rattle.ep_base.specs.KernelCounts.{FallingCounts};
-ghost use Rattle.ep_base.specs.PreProcessing.{Ready};
-ghost use Rattle.ep_base.specs.Transport.{EventSteps, TransportSteps};
-ghost use Rattle.law_run.specs.Bounds.{AtMost, AtMostStarts, FewApdus, log_bound};
+ghost use Rattle.ep_rules.specs.EntryPoint.Candidates.{candidates};
+ghost use Rattle.ep_base.specs.Objects.Directory.{Entry, directory};
+ghost use Rattle.ep_rules.specs.EntryPoint.Transaction.{transaction};
+ghost use Rattle.ep_rules.specs.EntryPoint.Kernel.{KernelSteps, scripted};
+ghost use Rattle.ep_rules.specs.EntryPoint.KernelCounts.{FallingCounts};
+ghost use Rattle.ep_rules.specs.EntryPoint.PreProcessing.{Ready};
+ghost use Rattle.ep_base.specs.Poll.Transport.{TransportSteps};
+ghost use Rattle.ep_rules.specs.EntryPoint.EventSteps.{EventSteps};
+ghost use Rattle.ep_rules.specs.EntryPoint.Bounds.{AtMost, AtMostStarts, FewApdus, log_bound};
 ghost use Rattle.law_run.specs.CandidateFacts.{IsCandidate};
 ghost use Rattle.law_run.specs.Heard.{Hearing};
 ghost use Rattle.law_run.specs.Legality.{Legal, ScriptedLegal};

@@ -1,17 +1,17 @@
 -- A lane alone writes what it writes among others.
 use Rattle.std.proofs.Common.{◌≡◌, ◌≢◌, ℕ, zero, suc, ◌+◌, ◌<◌, Bool, true, false, List, [], ◌∷◌, ◌++◌, length, refl, sym, ap, subst, ◌∙◌, append-nil, arith, Option, Some, None}
 use Rattle.std.specs.Prelude.{◌==◌, if◌then◌else◌, is_some}
-use Rattle.ep_base.specs.Hearing.{Asked}
-use Rattle.ep_base.specs.Lanes.{times}
-use Rattle.law_lane.specs.Standing.{asked_by}
-use Rattle.law_lane.specs.Exchanges.{field_answers, or_silence}
-use Rattle.law_turns.specs.Order.{Order, next_turn}
-use Rattle.law_turns.specs.LaneText.{Job, Going, Piece, after_text, opens, trace_part, heard_lane, piece_of}
-use Rattle.law_turns.specs.Turning.{IsLane}
-use Rattle.law_turns.specs.WholeRun.{ProbeSteps, open_probe, Run, is_live, asks, run_step, run_after, opening_lanes, opening_text, opened_run}
-use Rattle.law_turns.specs.Pieces.{of_lane, pieces_after}
-use Rattle.law_turns.specs.Telling.{jobs_of}
-use Rattle.law_turns.specs.Apart.{OthersStay, only, LanesApart}
+use Rattle.ep_base.specs.Air.Heard.{Ask}
+use Rattle.ep_claim.specs.Lanes.Steps.{times}
+use Rattle.ep_claim.specs.Lanes.Standing.{asked_by}
+use Rattle.ep_claim.specs.Lanes.Exchanges.{field_answers, or_silence}
+use Rattle.ep_claim.specs.Lanes.Order.{Order, next_turn}
+use Rattle.ep_claim.specs.Lanes.LaneText.{Job, Going, Piece, after_text, opens, trace_part, heard_lane, piece_of}
+use Rattle.ep_claim.specs.Lanes.Turning.{IsLane}
+use Rattle.ep_claim.specs.Lanes.WholeRun.{ProbeSteps, open_probe, Run, is_live, asks, run_step, run_after, opening_lanes, opening_text, opened_run}
+use Rattle.ep_claim.specs.Lanes.Pieces.{of_lane, pieces_after}
+use Rattle.ep_claim.specs.Lanes.Telling.{jobs_of}
+use Rattle.ep_claim.specs.Lanes.Apart.{OthersStay, only, LanesApart}
 use Rattle.law_turns.proofs.Ordering.{Anyhow, anyhow}
 use Rattle.law_turns.proofs.Stepping.{choose, times_end, no_going, by_step}
 use Rattle.law_turns.proofs.Owning.{piece, piece_is, own_by, own_turn, own_after, opening_going, own_in_run}
@@ -104,7 +104,7 @@ module _ (traced : Bool) (fsdi lane : ℕ) (jobs : List Job) where
         let at = here n g d in
         alone_stays (ap (λ o. own_turn traced fsdi lane o) at ∙ (ap (λ a. own_by traced fsdi lane g a) x ∙ ap (λ o. piece [] o) (sym at)))
 
-    heard_here : (o : Order) (g : Going) (ask : Asked) → run.lanes lane ≡ Some g → asked_by fsdi g.lane.standing.doing ≡ Some ask → Alone (suc k) (asks traced open_probe fsdi lane o g (Some ask) run)
+    heard_here : (o : Order) (g : Going) (ask : Ask) → run.lanes lane ≡ Some g → asked_by fsdi g.lane.standing.doing ≡ Some ask → Alone (suc k) (asks traced open_probe fsdi lane o g (Some ask) run)
     heard_here o g ask d x =
         let h = or_silence (field_answers ask g.lane.field).0 in
         let p = piece_of fsdi lane g (heard_lane fsdi g.talk ask h (field_answers ask g.lane.field).1 g.lane) in

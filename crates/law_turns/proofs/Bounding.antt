@@ -5,18 +5,18 @@ use Rattle.ep_base.specs.declared.outcome.OutcomeKind.{OutcomeKind}
 use Rattle.ep_base.specs.declared.outcome.OutcomeKind.TheVariants.{SelectNext, TryAgain, Approved, Declined, OnlineRequest, TryAnother, EndApplication}
 use Rattle.ep_base.specs.declared.outcome.Message.{Message}
 use Rattle.ep_base.specs.declared.outcome.Message.TheVariants.{PresentCard, InsertOrSwipe, OneCardOnly}
-use Rattle.ep_base.specs.Hearing.{Activated, RoundEnd, Empty, Collision, Unsupported, Broken, Found}
-use Rattle.ep_base.specs.PreProcessing.{Ready, any_allowed}
-use Rattle.ep_base.specs.Apdu.{is_9000}
-use Rattle.ep_base.specs.Directory.{directory}
-use Rattle.ep_base.specs.Candidates.{Candidate, candidates}
-use Rattle.ep_base.specs.Said.{Verdict, Notice, Outcome, Finished}
-use Rattle.ep_base.specs.Kernel.{Move, Send, Done, KernelSteps}
-use Rattle.ep_base.specs.Talk.{Talk, Over, Say, say_collision, by_end, rounds}
-use Rattle.ep_base.specs.EntryPoint.{most_rounds, start_b, say_message, after_kind, after_verdict, after_move, kernel_runs, activates, given_to, selects, presented, starts, say_ready, transaction}
+use Rattle.ep_base.specs.Air.Heard.{Activated, RoundEnd, Empty, Collision, Unsupported, Broken, Found}
+use Rattle.ep_rules.specs.EntryPoint.PreProcessing.{Ready, any_allowed}
+use Rattle.ep_base.specs.Cards.Apdu.{is_9000}
+use Rattle.ep_base.specs.Objects.Directory.{directory}
+use Rattle.ep_rules.specs.EntryPoint.Candidates.{Candidate, candidates}
+use Rattle.ep_rules.specs.EntryPoint.Event.{Verdict, Notice, Outcome, Finished}
+use Rattle.ep_rules.specs.EntryPoint.Kernel.{KernelStep, Send, Done, KernelSteps}
+use Rattle.ep_rules.specs.EntryPoint.Talk.{Talk, Over, Say, say_collision, by_end, rounds}
+use Rattle.ep_rules.specs.EntryPoint.Transaction.{most_rounds, start_b, say_message, after_kind, after_verdict, after_move, kernel_runs, activates, given_to, selects, presented, starts, say_ready, transaction}
 use Rattle.law_run.proofs.Bounding.{few_commands_lem, few_starts_lem}
 use Rattle.law_run.proofs.Legal.{legal_lem}
-use Rattle.law_turns.specs.Counting.{rounds_left, AtMostRounds, TransactionsAreBounded}
+use Rattle.ep_claim.specs.Lanes.Counting.{rounds_left, AtMostRounds, TransactionsAreBounded}
 
 -- a Start B with all of its rounds left
 abbrev IsFew : Talk → Type 0
@@ -62,7 +62,7 @@ module _ {S : Type 0} (k : KernelSteps S) where
     verdict_few : (more : S → Talk) → ((s : S) → IsFew (more s)) → (v : Verdict) (s : S) → IsFew (after_verdict again more v s)
     verdict_few more h v s = message_few v.message (after_kind again more v.kind s) (kind_few more h v.kind s)
 
-    move_few : (more : S → Talk) → ((s : S) → IsFew (more s)) → (go : S → Option (List ℕ) → Talk) → ((s : S) (last : Option (List ℕ)) → IsFew (go s last)) → (p : Move × S)
+    move_few : (more : S → Talk) → ((s : S) → IsFew (more s)) → (go : S → Option (List ℕ) → Talk) → ((s : S) (last : Option (List ℕ)) → IsFew (go s last)) → (p : KernelStep × S)
         → IsFew (after_move (after_verdict again more) go p)
     move_few more h go g ((Send command), t) = λ r. g t (Some r)
     move_few more h go g ((Done verdict), t) = verdict_few more h verdict t

@@ -2,26 +2,26 @@
 use Rattle.std.proofs.Common.{◌≡◌, ◌⊎◌, ⊎_elim, ℕ, suc, ◌+◌, ◌-◌, ◌*◌, ◌<◌, ◌≤◌, Bool, false, List, [], ◌∷◌, ◌++◌, length, length-append, refl, sym, ap, subst, ◌∙◌, append-nil, arith, Option, Some, None}
 use Rattle.std.specs.Prelude.{if◌then◌else◌}
 use Rattle.std.proofs.lemmas.Bool.Decides.{leb_tells}
-use Rattle.ep_base.specs.Hearing.{Hearing, RoundEnd, Empty, Collision, Unsupported, Broken, Found}
-use Rattle.ep_base.specs.Hearing as rounds
-use Rattle.ep_base.specs.Apdu.{is_command}
-use Rattle.ep_base.specs.Medium.{untold}
-use Rattle.ep_base.specs.Round.{Stage, round_hears}
-use Rattle.ep_base.specs.Block.{Heard, same}
-use Rattle.ep_base.specs.ReaderEnd.{Reader, Turn, Asks, Gives, Spends, Breaks, reader_hears, begin}
-use Rattle.ep_base.specs.LinkFrames.{heard_block}
-use Rattle.ep_base.specs.Radio.{OpenLink}
-use Rattle.ep_base.specs.Talk.{Talk, Over, Say, Poll, Command, Close, Result, Round, Response, Closed, so_far, is_found, IsLegal}
+use Rattle.ep_base.specs.Air.Heard.{Heard, RoundEnd, Empty, Collision, Unsupported, Broken, Found}
+use Rattle.ep_base.specs.Air.Heard as rounds
+use Rattle.ep_base.specs.Cards.Apdu.{is_command}
+use Rattle.ep_base.specs.Air.Medium.{untold}
+use Rattle.ep_base.specs.Poll.Round.{Stage, round_hears}
+use Rattle.ep_base.specs.Link.Block.{ReadBlock, same}
+use Rattle.ep_base.specs.Link.ReaderEnd.{Reader, Turn, Asks, Gives, Spends, Breaks, reader_hears, begin}
+use Rattle.ep_base.specs.Link.LinkFrames.{heard_block}
+use Rattle.ep_base.specs.Poll.Radio.{OpenLink}
+use Rattle.ep_rules.specs.EntryPoint.Talk.{Talk, Over, Say, Poll, Command, Close, Result, Round, Response, Closed, so_far, is_found, IsLegal}
 use Rattle.law_link.specs.Bounds.{IsEnded, toggle, toggles_in}
 use Rattle.law_link.specs.Bounds as links
 use Rattle.law_link.proofs.Bounding.{bounded_toggles, few_toggles, command_ends}
-use Rattle.law_run.specs.Bounds.{AtMost, starts_left, AtMostStarts}
+use Rattle.ep_rules.specs.EntryPoint.Bounds.{AtMost, starts_left, AtMostStarts}
 use Rattle.law_wire.proofs.Limits.{images_keep}
 use Rattle.law_round.proofs.Counting.{left, Leveled, Leaves, leaves, one_left}
 use Rattle.law_round.proofs.Sizing.{round_sized}
-use Rattle.law_lane.specs.Standing.{Standing, Doing, Rounds, Carries, Closing, Stopped, Astray, doing_by, standing, started, link_by, after_stage, after_turn, hears_by, after_hearing}
-use Rattle.law_turns.specs.Counting.{rounds_left, AtMostRounds, after_all}
-use Rattle.law_turns.specs.Bounds.{Counts, no_counts, count_round, count_asked, count_given, count_turn, count_closing, counted, all_counted, NextFits, BoundedCount}
+use Rattle.ep_claim.specs.Lanes.Standing.{Standing, Doing, Rounds, Carries, Closing, Stopped, Astray, doing_by, standing, started, link_by, after_stage, after_turn, hears_by, after_hearing}
+use Rattle.ep_claim.specs.Lanes.Counting.{rounds_left, AtMostRounds, after_all}
+use Rattle.ep_claim.specs.Promise.Counts.{Counts, no_counts, count_round, count_asked, count_given, count_turn, count_closing, counted, all_counted, NextFits, BoundedCount}
 use Rattle.law_turns.proofs.Counting.{IsShort, reader_short, IsReady, HasSize, link_ready, held, Sizes, sizes_next, end_sized, Wishes, wish_next, most, round_cost, rounds_fit}
 use Rattle.law_turns.proofs.Toggling.{Stays, Moves, Goes_on, reader_goes, since_now, toggles_now, after_more, toggles_more}
 
@@ -75,7 +75,7 @@ module _ (fsdi : ℕ) (start : Talk) (commands starts : ℕ) where
     reader : Reader
     fresh : reader.since ≡ []
     wide : 16 ≤ l.set.frames.card
-    heard : List Heard
+    heard : List ReadBlock
     asks : links.after_all l.set.frames.reader heard (Asks (begin l.set.frames.card command reader)) ≡ Asks l.reader
     toggles : toggles_in l.set.frames.reader heard (Asks (begin l.set.frames.card command reader)) ≡ c.toggles
     since : c.since ≡ length l.reader.since
@@ -198,7 +198,7 @@ module _ (fsdi : ℕ) (start : Talk) (commands starts : ℕ) where
   command_begins results command next None c b = omega (arith, b.cost)
   command_begins results command next (Some l) c b =
       let some : 0 < b.n = b.rests.few_commands.0 in
-      let none : length l.reader.since ≡ 0 = ap (λ (s : List Heard). length s) b.ready.0 in
+      let none : length l.reader.since ≡ 0 = ap (λ (s : List ReadBlock). length s) b.ready.0 in
       record {
         command = command;
         next = next;
@@ -356,7 +356,7 @@ module _ (fsdi : ℕ) (start : Talk) (commands starts : ℕ) where
   after_stage_holds results stage c x k is (rounds.Ends e) leaves_so sizes =
       stands (results ++ Round e ∷ []) (x.next e) (link_by fsdi e) (count_round (rounds.Ends e) c) (after_end results stage c x e (end_sized fsdi start k e sizes))
 
-  round_holds : (results : List Result) (stage : Stage) (c : Counts) (h : Hearing) → InRound results stage c → HoldsAt (after_stage fsdi start results (round_hears stage h)) (count_round (round_hears stage h) c)
+  round_holds : (results : List Result) (stage : Stage) (c : Counts) (h : Heard) → InRound results stage c → HoldsAt (after_stage fsdi start results (round_hears stage h)) (count_round (round_hears stage h) c)
   round_holds results stage c h x =
       let k = x.more - 1 in
       let one = one_left stage x.leveled in
@@ -366,7 +366,7 @@ module _ (fsdi : ℕ) (start : Talk) (commands starts : ℕ) where
 
   -- ---- an exchange of a command
 
-  module _ (results : List Result) (l : OpenLink) (c : Counts) (x : InCommand results l c) (h : Heard) where
+  module _ (results : List Result) (l : OpenLink) (c : Counts) (x : InCommand results l c) (h : ReadBlock) where
     abbrev size : ℕ
     size = l.set.frames.reader
 
@@ -477,7 +477,7 @@ module _ (fsdi : ℕ) (start : Talk) (commands starts : ℕ) where
 
   -- ---- every exchange
 
-  heard_holds : (results : List Result) (doing : Doing) (c : Counts) (h : Hearing) → Holds results doing c → HoldsAt (hears_by fsdi start results h doing) (counted doing h c)
+  heard_holds : (results : List Result) (doing : Doing) (c : Counts) (h : Heard) → Holds results doing c → HoldsAt (hears_by fsdi start results h doing) (counted doing h c)
   heard_holds results (Rounds stage) c h x = round_holds results stage c h x
   heard_holds results (Carries l) c h x =
       let block = heard_block l.set.kind l.set.frames.reader h in
@@ -487,7 +487,7 @@ module _ (fsdi : ℕ) (start : Talk) (commands starts : ℕ) where
   heard_holds results (Stopped ending) c h x = x
   heard_holds results Astray c h x = x
 
-  all_hold : (hs : List Hearing) (s : Standing) (c : Counts) → HoldsAt s c → NextFits commands starts (after_all fsdi start hs s).doing (all_counted fsdi start hs s c)
+  all_hold : (hs : List Heard) (s : Standing) (c : Counts) → HoldsAt s c → NextFits commands starts (after_all fsdi start hs s).doing (all_counted fsdi start hs s c)
   all_hold [] s c x = next_fits s.results s.doing c x
   all_hold (h ∷ hs) s c x = all_hold hs (after_hearing fsdi start h s) (counted s.doing h c) (heard_holds s.results s.doing c h x)
 

@@ -2,30 +2,30 @@
 use Rattle.std.proofs.Common.{◌≡◌, ℕ, zero, suc, ◌+◌, ◌-◌, ◌*◌, ◌<◌, ◌≤◌, nat_le, nat_lt, Bool, true, false, List, [], ◌∷◌, ◌++◌, length, take, drop, length-append, length-drop, refl, sym, ap, subst, ◌∙◌, append_assoc, append-nil, arith, Option, Some, None}
 use Rattle.std.proofs.lemmas.List.{take-append-drop, length-take-le}
 use Rattle.std.proofs.lemmas.Bool.Decides.{nat_tests}
-use Rattle.ep_base.specs.Hearing.{Activated, Asked, Hearing, RoundEnd, Empty, Collision, Unsupported, Broken, Found}
-use Rattle.ep_base.specs.Hearing as rounds
-use Rattle.ep_base.specs.Apdu.{is_command}
-use Rattle.ep_base.specs.Medium.{untold, ExchangesBy}
-use Rattle.ep_base.specs.Polling.{Plays}
-use Rattle.ep_base.specs.Round.{Stage, Waking, round_asks, round_hears}
-use Rattle.ep_base.specs.Block.{I, RAck, RNak, Deselect, Wtx, Heard, Bad, Junk, Intact, same, is_bad, is_wtx, is_nak, count}
-use Rattle.ep_base.specs.ReaderEnd.{Phase, Idle, Sending, Receiving, Reader, Turn, Asks, Gives, Spends, Breaks, asked, kept, is_fit, takes, appended, on_i, on_ack, reader_hears, begin}
-use Rattle.ep_base.specs.LinkFrames.{LinkSetting, heard_block}
-use Rattle.ep_base.specs.Carry.{turn_on}
-use Rattle.ep_base.specs.Radio.{OpenLink}
-use Rattle.ep_base.specs.Said.{Ending}
-use Rattle.ep_base.specs.Talk.{Talk, Over, Say, Poll, Command, Close, Result, Round, Response, Closed, so_far, is_found, IsLegal}
-use Rattle.ep_base.specs.TransportRun.{AtLink, AtBreach}
+use Rattle.ep_base.specs.Air.Heard.{Activated, Ask, Heard, RoundEnd, Empty, Collision, Unsupported, Broken, Found}
+use Rattle.ep_base.specs.Air.Heard as rounds
+use Rattle.ep_base.specs.Cards.Apdu.{is_command}
+use Rattle.ep_base.specs.Air.Medium.{untold, ExchangesBy}
+use Rattle.ep_base.specs.Poll.Polling.{Plays}
+use Rattle.ep_base.specs.Poll.Round.{Stage, Waking, round_asks, round_hears}
+use Rattle.ep_base.specs.Link.Block.{I, RAck, RNak, Deselect, Wtx, ReadBlock, Bad, Junk, Intact, same, is_bad, is_wtx, is_nak, count}
+use Rattle.ep_base.specs.Link.ReaderEnd.{Phase, Idle, Sending, Receiving, Reader, Turn, Asks, Gives, Spends, Breaks, asked, kept, is_fit, takes, appended, on_i, on_ack, reader_hears, begin}
+use Rattle.ep_base.specs.Link.LinkFrames.{LinkSetting, heard_block}
+use Rattle.ep_base.specs.Link.Carry.{turn_on}
+use Rattle.ep_base.specs.Poll.Radio.{OpenLink}
+use Rattle.ep_rules.specs.EntryPoint.Event.{Ending}
+use Rattle.ep_rules.specs.EntryPoint.Talk.{Talk, Over, Say, Poll, Command, Close, Result, Round, Response, Closed, so_far, is_found, IsLegal}
+use Rattle.ep_rules.specs.EntryPoint.TransportRun.{AtLink, AtBreach}
 use Rattle.law_link.specs.Bounds.{IsBounded, IsEnded}
 use Rattle.law_link.specs.Bounds as links
 use Rattle.law_link.proofs.Bounding.{bounded_toggles, command_ends}
-use Rattle.law_run.specs.Bounds.{AtMost, starts_left, AtMostStarts}
+use Rattle.ep_rules.specs.EntryPoint.Bounds.{AtMost, starts_left, AtMostStarts}
 use Rattle.law_wire.proofs.Limits.{images_keep}
 use Rattle.law_round.proofs.Presenting.{either, when}
 use Rattle.law_round.proofs.Counting.{left, Leveled, leaves, one_left}
 use Rattle.law_round.proofs.Sizing.{round_sized}
-use Rattle.law_lane.specs.Standing.{Standing, Doing, Rounds, Carries, Closing, Stopped, Astray, doing_by, standing, started, asked_by, link_by, after_stage, after_turn, after_hearing}
-use Rattle.law_turns.specs.Counting.{rounds_left, AtMostRounds, after_all, IsOverAfter, EveryExchangeCounts}
+use Rattle.ep_claim.specs.Lanes.Standing.{Standing, Doing, Rounds, Carries, Closing, Stopped, Astray, doing_by, standing, started, asked_by, link_by, after_stage, after_turn, after_hearing}
+use Rattle.ep_claim.specs.Lanes.Counting.{rounds_left, AtMostRounds, after_all, IsOverAfter, EveryExchangeCounts}
 
 -- ---- a response that is given is short
 
@@ -55,7 +55,7 @@ ack_short (Sending part []) r = tt
 ack_short (Sending part (next ∷ left)) r = tt
 ack_short (Receiving got) r = tt
 
-pub reader_short : (frame : ℕ) (r : Reader) (h : Heard) → IsShort (reader_hears frame r h)
+pub reader_short : (frame : ℕ) (r : Reader) (h : ReadBlock) → IsShort (reader_hears frame r h)
 reader_short frame r Bad = either IsShort (nat_lt (count is_bad (kept Bad r).since) 3) (Asks (kept Bad r)) (Spends (kept Bad r)) tt tt
 reader_short frame r Junk = tt
 reader_short frame r (Intact (I k ch inf)) = either IsShort (same k r.number) (on_i frame r.phase ch inf r) (Breaks r) (i_short frame r.phase ch inf r) tt
@@ -95,12 +95,12 @@ module _ (fsdi : ℕ) (start : Talk) where
   abbrev OverIn : ℕ → Standing → Type 0
   OverIn k s = IsOverAfter fsdi start k s
 
-  abbrev Quiet : List Hearing → Standing → Type 0
+  abbrev Quiet : List Heard → Standing → Type 0
   Quiet hs s = asked_by fsdi (after_all fsdi start hs s).doing ≡ None
 
   -- ---- counts
 
-  stays : (hs : List Hearing) (results : List Result) (doing : Doing) → asked_by fsdi doing ≡ None → Quiet hs (record { results = results; doing = doing })
+  stays : (hs : List Heard) (results : List Result) (doing : Doing) → asked_by fsdi doing ≡ None → Quiet hs (record { results = results; doing = doing })
   stays [] results doing e = e
   stays (h ∷ hs) results (Rounds stage) e = absurd (let clash : ⊥ = cc in clash)
   stays (h ∷ hs) results (Carries l) e = absurd (let clash : ⊥ = cc in clash)
@@ -114,16 +114,16 @@ module _ (fsdi : ℕ) (start : Talk) where
   over_more : (k m : ℕ) (s : Standing) → k ≤ m → OverIn k s → OverIn m s
   over_more k m s le over = λ hs many. over hs (omega (arith, le, many))
 
-  step_quiet : (k m : ℕ) (s : Standing) (hs : List Hearing) → k + 1 ≤ m → m ≤ length hs → ((h : Hearing) → OverIn k (after_hearing fsdi start h s)) → Quiet hs s
+  step_quiet : (k m : ℕ) (s : Standing) (hs : List Heard) → k + 1 ≤ m → m ≤ length hs → ((h : Heard) → OverIn k (after_hearing fsdi start h s)) → Quiet hs s
   step_quiet k m s [] le many next = absurd (omega (arith, le, many))
   step_quiet k m s (h ∷ hs) le many next = next h hs (omega (arith, le, many))
 
-  over_step : (k m : ℕ) (s : Standing) → k + 1 ≤ m → ((h : Hearing) → OverIn k (after_hearing fsdi start h s)) → OverIn m s
+  over_step : (k m : ℕ) (s : Standing) → k + 1 ≤ m → ((h : Heard) → OverIn k (after_hearing fsdi start h s)) → OverIn m s
   over_step k m s le next = λ hs many. step_quiet k m s hs le many next
 
   -- ---- a poll round
 
-  any_exchange : (reset : Bool) (ask : Asked) (h : Hearing) → ExchangesBy untold reset tt ask (Some h) tt
+  any_exchange : (reset : Bool) (ask : Ask) (h : Heard) → ExchangesBy untold reset tt ask (Some h) tt
   any_exchange true ask h = (true, tt, tt, tt)
   any_exchange false ask h = tt
 
@@ -131,7 +131,7 @@ module _ (fsdi : ℕ) (start : Talk) where
   abbrev pub Sizes : ℕ → rounds.Turn Stage → Type 0
   Sizes n turn = (card : Activated) → Plays untold fsdi n turn tt (Some (Found card)) tt → 16 ≤ card.fsc
 
-  pub sizes_next : (n : ℕ) (stage : Stage) (h : Hearing) → Sizes (suc n) (rounds.Goes stage) → Sizes n (round_hears stage h)
+  pub sizes_next : (n : ℕ) (stage : Stage) (h : Heard) → Sizes (suc n) (rounds.Goes stage) → Sizes n (round_hears stage h)
   unfolding Plays
   sizes_next n stage h sizes = λ card x. sizes card (Some h, tt, any_exchange (round_asks fsdi stage).reset (round_asks fsdi stage) h, x)
 
@@ -175,15 +175,15 @@ module _ (fsdi : ℕ) (start : Talk) where
     abbrev frame : ℕ
     frame = set.frames.reader
 
-    abbrev blocks : List Hearing → List Heard
+    abbrev blocks : List Heard → List ReadBlock
     blocks [] = []
     blocks (h ∷ hs) = heard_block set.kind frame h ∷ blocks hs
 
-    blocks_length : (hs : List Hearing) → length (blocks hs) ≡ length hs
+    blocks_length : (hs : List Heard) → length (blocks hs) ≡ length hs
     blocks_length [] = refl
     blocks_length (h ∷ hs) = ap suc (blocks_length hs)
 
-    settles : (hs more : List Hearing) (t : Turn) → IsShort t → IsEnded (links.after_all frame (blocks hs) t) → IsBounded (links.after_all frame (blocks hs) t) → k ≤ length more
+    settles : (hs more : List Heard) (t : Turn) → IsShort t → IsEnded (links.after_all frame (blocks hs) t) → IsBounded (links.after_all frame (blocks hs) t) → k ≤ length more
         → Quiet (hs ++ more) (after_turn start results set t)
     settles [] more (Asks r) short ended bounded many = absurd ended
     settles [] more (Gives a q) short ended bounded many = next a q short bounded more many

@@ -3,19 +3,19 @@ use Rattle.std.proofs.Common.{◌≡◌, ◌≢◌, ◌⊎◌, inl, inr, ⊎_eli
 use Rattle.std.specs.Prelude.{◌==◌, if◌then◌else◌, is_some, sum}
 use Rattle.std.proofs.lemmas.Bool.Decides.{leb_tells}
 use Rattle.std.proofs.lemmas.List.Sums.{sum_by-cons}
-use Rattle.ep_base.specs.Hearing.{Asked, Hearing}
-use Rattle.ep_base.specs.Field.{Field}
-use Rattle.ep_base.specs.Lanes.{times}
-use Rattle.ep_base.specs.Talk.{Talk}
-use Rattle.law_lane.specs.Standing.{Standing, started, asked_by, after_hearing}
-use Rattle.law_lane.specs.Exchanges.{field_answers, or_silence}
+use Rattle.ep_base.specs.Air.Heard.{Ask, Heard}
+use Rattle.ep_base.specs.Cards.Field.{Field}
+use Rattle.ep_claim.specs.Lanes.Steps.{times}
+use Rattle.ep_rules.specs.EntryPoint.Talk.{Talk}
+use Rattle.ep_claim.specs.Lanes.Standing.{Standing, started, asked_by, after_hearing}
+use Rattle.ep_claim.specs.Lanes.Exchanges.{field_answers, or_silence}
 use Rattle.law_lane.proofs.Moving.{times_more}
-use Rattle.law_turns.specs.Order.{Order, next_turn}
-use Rattle.law_turns.specs.LaneText.{Job, Going, opens_by, opens, heard_lane, goes_on, piece_of}
-use Rattle.law_turns.specs.Turning.{IsLane}
-use Rattle.law_turns.specs.WholeRun.{ProbeSteps, Run, is_live, asks, takes_turn, run_step, opening_lanes, opened_run}
-use Rattle.law_turns.specs.Counting.{IsOverAfter, exchanges_most}
-use Rattle.law_turns.specs.Ending.{AreOverAfter, LanesOverAfter, in_all, HasEnded, RunsEndWithin, AreBounded, LanesAreBounded, RunsEnd, OneEnd}
+use Rattle.ep_claim.specs.Lanes.Order.{Order, next_turn}
+use Rattle.ep_claim.specs.Lanes.LaneText.{Job, Going, opens_by, opens, heard_lane, goes_on, piece_of}
+use Rattle.ep_claim.specs.Lanes.Turning.{IsLane}
+use Rattle.ep_claim.specs.Lanes.WholeRun.{ProbeSteps, Run, is_live, asks, takes_turn, run_step, opening_lanes, opened_run}
+use Rattle.ep_claim.specs.Lanes.Counting.{IsOverAfter, exchanges_most}
+use Rattle.ep_claim.specs.Lanes.Ending.{AreOverAfter, LanesOverAfter, in_all, HasEnded, RunsEndWithin, AreBounded, LanesAreBounded, RunsEnd, OneEnd}
 use Rattle.law_turns.proofs.Counting.{every_exchange_counts_law}
 use Rattle.law_turns.proofs.Ordering.{Anyhow, anyhow}
 use Rattle.law_turns.proofs.Stepping.{choose, by_step}
@@ -67,14 +67,14 @@ module _ (fsdi : ℕ) where
   abbrev Within : ℕ → Option Going → Type 0
   Within k None = Unit {0}
   Within k (Some g) =
-      (n : ℕ) × (ns : List ℕ) × (ask : Asked) × IsOverAfter fsdi g.talk n g.lane.standing × AreOverAfter fsdi g.left ns × (n + sum ns ≤ k)
+      (n : ℕ) × (ns : List ℕ) × (ask : Ask) × IsOverAfter fsdi g.talk n g.lane.standing × AreOverAfter fsdi g.left ns × (n + sum ns ≤ k)
       × (asked_by fsdi g.lane.standing.doing ≡ Some ask)
 
-  not_over : (talk : Talk) (n : ℕ) (s : Standing) (ask : Asked) → IsOverAfter fsdi talk n s → asked_by fsdi s.doing ≡ Some ask → 0 < n
+  not_over : (talk : Talk) (n : ℕ) (s : Standing) (ask : Ask) → IsOverAfter fsdi talk n s → asked_by fsdi s.doing ≡ Some ask → 0 < n
   not_over talk zero s ask over e = let none = over [] (omega arith) in absurd (let clash : ⊥ = cc in clash)
   not_over talk (suc n) s ask over e = omega arith
 
-  over_next : (talk : Talk) (n : ℕ) (s : Standing) (h : Hearing) → IsOverAfter fsdi talk n s → IsOverAfter fsdi talk (n - 1) (after_hearing fsdi talk h s)
+  over_next : (talk : Talk) (n : ℕ) (s : Standing) (h : Heard) → IsOverAfter fsdi talk n s → IsOverAfter fsdi talk (n - 1) (after_hearing fsdi talk h s)
   over_next talk n s h over = λ hs le. over (h ∷ hs) (omega (arith, le))
 
   opens_within : (lane : ℕ) (js : List Job) (ns : List ℕ) (txn k : ℕ) → AreOverAfter fsdi js ns → sum ns ≤ k → Within k (opens fsdi lane txn js).going
@@ -82,17 +82,17 @@ module _ (fsdi : ℕ) where
   opens_within lane (j ∷ js) [] txn k over le = absurd over
   opens_within lane (j ∷ js) (n ∷ ns) txn k over le =
       let parts = sum_cons n ns in
-      elim (asked_by fsdi (started j.talk).doing) as (λ (a : Option Asked). asked_by fsdi (started j.talk).doing ≡ a → Within k (opens_by lane txn j js (opens fsdi lane (txn + 1) js) a).going) [
+      elim (asked_by fsdi (started j.talk).doing) as (λ (a : Option Ask). asked_by fsdi (started j.talk).doing ≡ a → Within k (opens_by lane txn j js (opens fsdi lane (txn + 1) js) a).going) [
         | Some ask ↦ λ e. (n, ns, ask, over.0, over.1, omega (arith, parts, le), e)
         | None ↦ λ e. opens_within lane js ns (txn + 1) k over.1 (omega (arith, parts, le))
       ] refl
 
   -- after an exchange, whatever was heard in it, one less
-  piece_within : (lane k : ℕ) (g : Going) (ask : Asked) (h : Hearing) (f : Field) → Within k (Some g) → Within (k - 1) (piece_of fsdi lane g (heard_lane fsdi g.talk ask h f g.lane)).going
+  piece_within : (lane k : ℕ) (g : Going) (ask : Ask) (h : Heard) (f : Field) → Within k (Some g) → Within (k - 1) (piece_of fsdi lane g (heard_lane fsdi g.talk ask h f g.lane)).going
   piece_within lane k g ask h f (n, ns, now, over, rest, le, e) =
       let l = heard_lane fsdi g.talk ask h f g.lane in
       let some = not_over g.talk n g.lane.standing now over e in
-      elim (asked_by fsdi l.standing.doing) as (λ (a : Option Asked). asked_by fsdi l.standing.doing ≡ a → Within (k - 1) (goes_on fsdi lane g l a).going) [
+      elim (asked_by fsdi l.standing.doing) as (λ (a : Option Ask). asked_by fsdi l.standing.doing ≡ a → Within (k - 1) (goes_on fsdi lane g l a).going) [
         | Some next ↦ λ d. (n - 1, ns, next, over_next g.talk n g.lane.standing h over, rest, omega (arith, le, some), d)
         | None ↦ λ d. opens_within lane g.left ns (g.txn + 1) (k - 1) rest (omega (arith, le, some))
       ] refl
@@ -124,7 +124,7 @@ module _ (fsdi : ℕ) where
     live_fits f run n g fits d = subst (λ o. Within (f n) o) d (fits.lanes n)
 
     -- after an exchange of lane n
-    asks_fit : (f : ℕ → ℕ) (run : Run P) (n : ℕ) (o : Order) (g : Going) (ask : Asked) → Fits f run → run.lanes n ≡ Some g → Fits (less_at n f) (asks traced probe fsdi n o g (Some ask) run)
+    asks_fit : (f : ℕ → ℕ) (run : Run P) (n : ℕ) (o : Order) (g : Going) (ask : Ask) → Fits f run → run.lanes n ≡ Some g → Fits (less_at n f) (asks traced probe fsdi n o g (Some ask) run)
     asks_fit f run n o g ask fits d =
         let a = field_answers ask g.lane.field in
         let heard = (probe.hear run.probe n ask (or_silence a.0)).1 in

@@ -5,20 +5,20 @@ use Rattle.std.proofs.Math.Nat.{mul-le-mul_right}
 use Rattle.std.proofs.lemmas.Nat.{mul-le}
 use Rattle.std.proofs.lemmas.List.Elements.{All-head, All-tail}
 use Rattle.std.proofs.lemmas.List.Sums.{sum_by-cons}
-use Rattle.ep_base.specs.Kernel.{scripted}
-use Rattle.ep_base.specs.Lanes.{times}
-use Rattle.ep_base.specs.Talk.{Talk}
-use Rattle.law_run.specs.Bounds.{log_bound}
+use Rattle.ep_rules.specs.EntryPoint.Kernel.{scripted}
+use Rattle.ep_claim.specs.Lanes.Steps.{times}
+use Rattle.ep_rules.specs.EntryPoint.Talk.{Talk}
+use Rattle.ep_rules.specs.EntryPoint.Bounds.{log_bound}
 use Rattle.law_run.proofs.Bounding.{few_commands_lem, few_starts_lem}
 use Rattle.law_run.proofs.Scripting.{scripts_fall_lem}
 use Rattle.law_run.proofs.Legal.{scripted_lem}
-use Rattle.law_lane.specs.Standing.{started}
+use Rattle.ep_claim.specs.Lanes.Standing.{started}
 use Rattle.law_lane.proofs.Moving.{times_more}
-use Rattle.law_turns.specs.LaneText.{Job}
-use Rattle.law_turns.specs.WholeRun.{ProbeSteps, run_step, opened_run, run_after}
-use Rattle.law_turns.specs.Pieces.{written, step_pieces}
-use Rattle.law_turns.specs.Counting.{IsBounded, IsOverAfter, exchanges_most}
-use Rattle.law_turns.specs.Ending.{AreOverAfter, LanesOverAfter, in_all, HasEnded}
+use Rattle.ep_claim.specs.Lanes.LaneText.{Job}
+use Rattle.ep_claim.specs.Lanes.WholeRun.{ProbeSteps, run_step, opened_run, run_after}
+use Rattle.ep_claim.specs.Lanes.Pieces.{written, step_pieces}
+use Rattle.ep_claim.specs.Lanes.Counting.{IsBounded, IsOverAfter, exchanges_most}
+use Rattle.ep_claim.specs.Lanes.Ending.{AreOverAfter, LanesOverAfter, in_all, HasEnded}
 use Rattle.law_turns.specs.Growing.{TextsGrow, RunsStay, IsShort, IsShortLane, AreShort, most_of_one, most_exchanges, RunsEndInMost}
 use Rattle.law_turns.proofs.Bounding.{transaction_few}
 use Rattle.law_turns.proofs.Counting.{every_exchange_counts_law}

@@ -1,22 +1,22 @@
 -- The transactions that a lane tells have the promise, and so has the lane.
 use Rattle.std.proofs.Common.{◌≡◌, ◌≢◌, ◌⊎◌, inl, inr, ℕ, ◌+◌, Bool, false, List, [], ◌∷◌, ◌++◌, All, refl, sym, ap, subst, ◌∙◌}
 use Rattle.std.proofs.lemmas.List.Elements.{All-head, All-tail}
-use Rattle.ep_base.specs.Air.{AllPass}
-use Rattle.ep_base.specs.Hearing.{Activated, RoundEnd}
-use Rattle.ep_base.specs.CardAnswer.{Image}
-use Rattle.ep_base.specs.Perfect.{Perfect}
-use Rattle.ep_base.specs.Said.{Said}
-use Rattle.ep_base.specs.Talk.{Nothing, so_far}
-use Rattle.ep_base.specs.TransportRun.{HearEnd, Whole, AtLink, AtBreach, AtDevice, said_for}
-use Rattle.ep_base.specs.WrittenText.{event_lines, log_lines, lane_text_from}
-use Rattle.law_radio.specs.OverRadio.{EndsInLink, Keeps}
-use Rattle.law_lane.specs.Exchanges.{Lane, opened_lane}
-use Rattle.law_lane.specs.Standing.{Doing, Stopped, events_by, ending_of}
+use Rattle.ep_base.specs.Air.Fates.{AllPass}
+use Rattle.ep_base.specs.Air.Heard.{Activated, RoundEnd}
+use Rattle.ep_base.specs.Cards.CardAnswer.{Image}
+use Rattle.ep_rules.specs.EntryPoint.Perfect.{Perfect}
+use Rattle.ep_rules.specs.EntryPoint.Event.{Said}
+use Rattle.ep_rules.specs.EntryPoint.Talk.{Nothing, so_far}
+use Rattle.ep_rules.specs.EntryPoint.TransportRun.{HearEnd, Whole, AtLink, AtBreach, AtDevice, said_for}
+use Rattle.ep_claim.specs.Text.WrittenText.{event_lines, log_lines, lane_text_from}
+use Rattle.ep_claim.specs.Promise.Perfection.{EndsInLink, Keeps}
+use Rattle.ep_claim.specs.Lanes.Exchanges.{Lane, opened_lane}
+use Rattle.ep_claim.specs.Lanes.Standing.{Doing, Stopped, events_by, ending_of}
 use Rattle.law_lane.proofs.Keeping.{lanes_keep_law, no_loss_law}
-use Rattle.law_turns.specs.LaneText.{Job}
-use Rattle.law_turns.specs.Telling.{job_after, IsOverAt, job_text, whole_text, AreTold}
-use Rattle.law_turns.specs.Keeping.{Cards, radio_of, IsReady, events_at, log_at, perfect_at, perfect_said, TransactionPromise, TransactionsKeep}
-use Rattle.law_turns.specs.LanePromise.{AreReady, AreKept, lane_lines, ends_at, perfect_ends, EveryFramePasses, LanePromise, ToldKeep}
+use Rattle.ep_claim.specs.Lanes.LaneText.{Job}
+use Rattle.ep_claim.specs.Lanes.Telling.{job_after, IsOverAt, job_text, whole_text, AreTold}
+use Rattle.ep_claim.specs.Promise.Transaction.{Cards, radio_of, IsReady, events_at, log_at, perfect_at, perfect_said, TransactionPromise, TransactionsKeep}
+use Rattle.ep_claim.specs.Promise.Lane.{AreReady, AreKept, lane_lines, ends_at, perfect_ends, EveryFramePasses, LanePromise, ToldKeep}
 use Rattle.law_turns.proofs.Least.{Least, least}
 use Rattle.law_turns.proofs.Telling.{exchanges_tell_events}
 use Rattle.law_turns.proofs.Thirds.{third_lem, only_third_lem, two_bad_lem}

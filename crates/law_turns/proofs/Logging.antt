@@ -2,35 +2,35 @@
 use Rattle.std.proofs.Common.{◌≡◌, ◌⊎◌, ⊎_elim, ℕ, zero, suc, ◌+◌, ◌<◌, ◌≤◌, nat_lt, Bool, true, false, List, [], ◌∷◌, ◌++◌, length, length-append, refl, sym, ap, subst, ◌∙◌, append-nil, arith, Option, Some, None}
 use Rattle.std.specs.Prelude.{if◌then◌else◌}
 use Rattle.ep_base.specs.declared.air.Wave.{Wave}
-use Rattle.ep_base.specs.Hearing.{Asked, Hearing, RoundEnd}
-use Rattle.ep_base.specs.Hearing as rounds
-use Rattle.ep_base.specs.Round.{Stage, round_hears}
-use Rattle.ep_base.specs.Air.{next_fate}
-use Rattle.ep_base.specs.Wire.{comes_down}
-use Rattle.ep_base.specs.Medium.{told}
-use Rattle.ep_base.specs.Field.{Placed, Field, field, field_reset, all_hear, all_take, one_hears}
-use Rattle.ep_base.specs.ReaderEnd.{Turn, Asks, Gives, Spends, Breaks, reader_hears}
-use Rattle.ep_base.specs.LinkFrames.{LinkSetting, heard_block}
-use Rattle.ep_base.specs.Radio.{OpenLink}
-use Rattle.ep_base.specs.Images.{Rules, stored}
-use Rattle.ep_base.specs.Perfect.{Channel, Perfect, at_command, perfect, channel, presents}
-use Rattle.ep_base.specs.Direct.{image_rules}
-use Rattle.ep_base.specs.Talk.{ends_of}
-use Rattle.ep_base.specs.Talk.{Talk, Over, Say, Poll, Command, Close, Result, Round, Response, Closed, so_far}
-use Rattle.ep_base.specs.TransportRun.{HearEnd, Whole, AtLink, AtBreach, AtDevice}
-use Rattle.law_run.specs.Bounds.{AtMost, apdus, commands_wished, AreShortResults}
+use Rattle.ep_base.specs.Air.Heard.{Ask, Heard, RoundEnd}
+use Rattle.ep_base.specs.Air.Heard as rounds
+use Rattle.ep_base.specs.Poll.Round.{Stage, round_hears}
+use Rattle.ep_base.specs.Air.Fates.{next_fate}
+use Rattle.ep_base.specs.Link.Wire.{comes_down}
+use Rattle.ep_base.specs.Air.Medium.{told}
+use Rattle.ep_base.specs.Cards.Field.{Placed, Field, field, field_reset, all_hear, all_take, one_hears}
+use Rattle.ep_base.specs.Link.ReaderEnd.{Turn, Asks, Gives, Spends, Breaks, reader_hears}
+use Rattle.ep_base.specs.Link.LinkFrames.{LinkSetting, heard_block}
+use Rattle.ep_base.specs.Poll.Radio.{OpenLink}
+use Rattle.ep_base.specs.Cards.Images.{Rules, stored}
+use Rattle.ep_rules.specs.EntryPoint.Perfect.{Channel, Perfect, at_command, perfect, channel, presents}
+use Rattle.ep_base.specs.Cards.Direct.{image_rules}
+use Rattle.ep_rules.specs.EntryPoint.Talk.{ends_of}
+use Rattle.ep_rules.specs.EntryPoint.Talk.{Talk, Over, Say, Poll, Command, Close, Result, Round, Response, Closed, so_far}
+use Rattle.ep_rules.specs.EntryPoint.TransportRun.{HearEnd, Whole, AtLink, AtBreach, AtDevice}
+use Rattle.ep_rules.specs.EntryPoint.Bounds.{AtMost, apdus, commands_wished, AreShortResults}
 use Rattle.law_run.proofs.Bounding.{few_apdus_lem}
-use Rattle.law_radio.specs.OverRadio.{Keeps, responses}
+use Rattle.ep_claim.specs.Promise.Perfection.{Keeps, responses}
 use Rattle.law_lane.specs.Hearing.{HearsRounds, HearsTurn}
-use Rattle.law_lane.specs.Standing.{Standing, Doing, Rounds, Carries, Closing, Stopped, Astray, asked_by, link_by, after_stage, after_turn, hears_by}
-use Rattle.law_lane.specs.Exchanges.{Lane, field_answers, or_silence, opened_lane, goes_by, lane_step, lane_after}
+use Rattle.ep_claim.specs.Lanes.Standing.{Standing, Doing, Rounds, Carries, Closing, Stopped, Astray, asked_by, link_by, after_stage, after_turn, hears_by}
+use Rattle.ep_claim.specs.Lanes.Exchanges.{Lane, field_answers, or_silence, opened_lane, goes_by, lane_step, lane_after}
 use Rattle.law_lane.specs.LaneLaw.{LaneEnds}
 use Rattle.law_lane.proofs.Ending.{lanes_end_law}
 use Rattle.law_lane.proofs.Moving.{times_more}
-use Rattle.law_turns.specs.LaneText.{Job}
-use Rattle.law_turns.specs.Telling.{job_after}
-use Rattle.law_turns.specs.Keeping.{Cards, radio_of, IsReady}
-use Rattle.law_turns.specs.Logs.{LogFits, LogsFit}
+use Rattle.ep_claim.specs.Lanes.LaneText.{Job}
+use Rattle.ep_claim.specs.Lanes.Telling.{job_after}
+use Rattle.ep_claim.specs.Promise.Transaction.{Cards, radio_of, IsReady}
+use Rattle.ep_claim.specs.Promise.Logs.{LogFits, LogsFit}
 use Rattle.law_turns.proofs.Counting.{IsShort, reader_short}
 
 -- ---- a log grows, and its room stays
@@ -50,7 +50,7 @@ take_grows f wave (Some bytes) = all_grow f.room wave bytes f.cards f.log
 abbrev Grows : Field → Field → Type 0
 Grows f g = (length f.log ≤ length g.log) × (g.room ≡ f.room)
 
-answer_grows : (ask : Asked) (f : Field) → Grows f (field_answers ask f).1
+answer_grows : (ask : Ask) (f : Field) → Grows f (field_answers ask f).1
 answer_grows ask f =
     let grown = take_grows (if ask.reset then field_reset f else f) ask.wave (comes_down (next_fate (if ask.reset then field_reset f else f).air.fates).down ask.wave ask.bytes) in
     let both : Grows f (if ask.reset then field_reset f else f) =
@@ -61,7 +61,7 @@ answer_grows ask f =
 module _ (fsdi : ℕ) (talk : Talk) where
   step_grows : (l : Lane) → Grows l.field (lane_step fsdi talk l).field
   step_grows l =
-      elim (asked_by fsdi l.standing.doing) as (λ (a : Option Asked). Grows l.field (goes_by fsdi talk a l).field) [
+      elim (asked_by fsdi l.standing.doing) as (λ (a : Option Ask). Grows l.field (goes_by fsdi talk a l).field) [
         | None ↦ (omega arith, refl)
         | Some ask ↦ answer_grows ask l.field
       ]
@@ -124,7 +124,7 @@ module _ (fsdi : ℕ) (talk : Talk) where
   turn_short results set (Spends q) brief s = s
   turn_short results set (Breaks q) brief s = s
 
-  heard_short : (results : List Result) (doing : Doing) (h : Hearing) → Short results → Short (hears_by fsdi talk results h doing).results
+  heard_short : (results : List Result) (doing : Doing) (h : Heard) → Short results → Short (hears_by fsdi talk results h doing).results
   heard_short results (Rounds stage) h s = stage_short results (round_hears stage h) s
   heard_short results (Carries l) h s =
       let block = heard_block l.set.kind l.set.frames.reader h in
@@ -137,7 +137,7 @@ module _ (fsdi : ℕ) (talk : Talk) where
   lane_short zero l s = s
   lane_short (suc n) l s =
       lane_short n (lane_step fsdi talk l)
-      (elim (asked_by fsdi l.standing.doing) as (λ (a : Option Asked). Short (goes_by fsdi talk a l).standing.results) [
+      (elim (asked_by fsdi l.standing.doing) as (λ (a : Option Ask). Short (goes_by fsdi talk a l).standing.results) [
         | None ↦ s
         | Some ask ↦ heard_short l.standing.results l.standing.doing (or_silence (field_answers ask l.field).0) s
       ])

@@ -1,17 +1,17 @@
 -- Each lane of a run stands as its own exchanges led to it, whatever the probe makes of the hearings.
 use Rattle.std.proofs.Common.{◌≡◌, ℕ, zero, suc, ◌+◌, Bool, List, [], ◌∷◌, ◌++◌, length, length-append, map, refl, sym, ap, subst, ◌∙◌, append_assoc, arith, Option, Some, None}
 use Rattle.std.specs.Prelude.{◌==◌, if◌then◌else◌}
-use Rattle.ep_base.specs.Hearing.{Asked, Hearing}
-use Rattle.ep_base.specs.Field.{Field}
-use Rattle.ep_base.specs.Lanes.{times}
-use Rattle.ep_base.specs.Talk.{Talk}
-use Rattle.law_lane.specs.Standing.{Standing, started, asked_by, after_hearing}
-use Rattle.law_lane.specs.Exchanges.{Exchange, field_answers, or_silence}
-use Rattle.law_turns.specs.LaneText.{Job, Going, opens_by, opens, heard_lane, goes_on, piece_of}
-use Rattle.law_turns.specs.WholeRun.{ProbeSteps, Run, asks, run_step, opening_lanes, opened_run}
-use Rattle.law_turns.specs.Telling.{jobs_of}
-use Rattle.law_turns.specs.Counting.{after_all}
-use Rattle.law_turns.specs.Bounds.{heard_in, IsUnderWay, AreUnderWay}
+use Rattle.ep_base.specs.Air.Heard.{Ask, Heard}
+use Rattle.ep_base.specs.Cards.Field.{Field}
+use Rattle.ep_claim.specs.Lanes.Steps.{times}
+use Rattle.ep_rules.specs.EntryPoint.Talk.{Talk}
+use Rattle.ep_claim.specs.Lanes.Standing.{Standing, started, asked_by, after_hearing}
+use Rattle.ep_claim.specs.Lanes.Exchanges.{Exchange, field_answers, or_silence}
+use Rattle.ep_claim.specs.Lanes.LaneText.{Job, Going, opens_by, opens, heard_lane, goes_on, piece_of}
+use Rattle.ep_claim.specs.Lanes.WholeRun.{ProbeSteps, Run, asks, run_step, opening_lanes, opened_run}
+use Rattle.ep_claim.specs.Lanes.Telling.{jobs_of}
+use Rattle.ep_claim.specs.Lanes.Counting.{after_all}
+use Rattle.ep_claim.specs.Promise.Counts.{heard_in, IsUnderWay, AreUnderWay}
 use Rattle.law_turns.proofs.Stepping.{choose, by_step}
 
 -- one more exchange
@@ -20,7 +20,7 @@ heard_more [] x = refl
 heard_more (y ∷ ys) x = ap (λ l. y.heard ∷ l) (heard_more ys x)
 
 module _ (fsdi : ℕ) where
-  all_more : (talk : Talk) (hs : List Hearing) (h : Hearing) (s : Standing) → after_all fsdi talk (hs ++ h ∷ []) s ≡ after_hearing fsdi talk h (after_all fsdi talk hs s)
+  all_more : (talk : Talk) (hs : List Heard) (h : Heard) (s : Standing) → after_all fsdi talk (hs ++ h ∷ []) s ≡ after_hearing fsdi talk h (after_all fsdi talk hs s)
   all_more talk [] h s = refl
   all_more talk (x ∷ xs) h s = all_more talk xs h (after_hearing fsdi talk x s)
 
@@ -32,7 +32,7 @@ module _ (fsdi : ℕ) where
     opens_made : (js before : List Job) (lane txn : ℕ) → jobs ≡ before ++ js → txn ≡ length before + 1 → Made (opens fsdi lane txn js).going
     opens_made [] before lane txn all number = tt
     opens_made (j ∷ js) before lane txn all number =
-        elim (asked_by fsdi (started j.talk).doing) as (λ (a : Option Asked). Made (opens_by lane txn j js (opens fsdi lane (txn + 1) js) a).going) [
+        elim (asked_by fsdi (started j.talk).doing) as (λ (a : Option Ask). Made (opens_by lane txn j js (opens fsdi lane (txn + 1) js) a).going) [
           | Some ask ↦ record { before = before; job = j; all = all; number = number; talks = refl; led = refl }
           | None ↦
               let size : length (before ++ j ∷ []) ≡ length before + 1 = length-append before (j ∷ []) in
@@ -48,10 +48,10 @@ module _ (fsdi : ℕ) where
         ∙ (sym (all_more m.job.talk (heard_in g.lane.exchanges) x.heard (started m.job.talk))
         ∙ ap (λ hs. after_all fsdi m.job.talk hs (started m.job.talk)) (sym (heard_more g.lane.exchanges x))))
 
-    piece_made : (lane : ℕ) (g : Going) (ask : Asked) (h : Hearing) (f : Field) → IsUnderWay fsdi jobs g → Made (piece_of fsdi lane g (heard_lane fsdi g.talk ask h f g.lane)).going
+    piece_made : (lane : ℕ) (g : Going) (ask : Ask) (h : Heard) (f : Field) → IsUnderWay fsdi jobs g → Made (piece_of fsdi lane g (heard_lane fsdi g.talk ask h f g.lane)).going
     piece_made lane g ask h f m =
         let l = heard_lane fsdi g.talk ask h f g.lane in
-        elim (asked_by fsdi l.standing.doing) as (λ (a : Option Asked). Made (goes_on fsdi lane g l a).going) [
+        elim (asked_by fsdi l.standing.doing) as (λ (a : Option Ask). Made (goes_on fsdi lane g l a).going) [
           | Some next ↦ record { before = m.before; job = m.job; all = m.all; number = m.number; talks = m.talks; led = led_next g m (record { asked = ask; heard = h }) }
           | None ↦
               let size : length (m.before ++ m.job ∷ []) ≡ length m.before + 1 = length-append m.before (m.job ∷ []) in
@@ -69,7 +69,7 @@ module _ (fsdi : ℕ) where
     abbrev AllMade : Run P → Type 0
     AllMade run = (n : ℕ) → Made (jobs_of 1 lanes n) (run.lanes n)
 
-    asks_made : (run : Run P) (n : ℕ) (g : Going) (ask : Asked) (h : Hearing) → AllMade run → run.lanes n ≡ Some g → (j : ℕ)
+    asks_made : (run : Run P) (n : ℕ) (g : Going) (ask : Ask) (h : Heard) → AllMade run → run.lanes n ≡ Some g → (j : ℕ)
         → Made (jobs_of 1 lanes j) (if j == n then (piece_of fsdi n g (heard_lane fsdi g.talk ask h (field_answers ask g.lane.field).1 g.lane)).going else run.lanes j)
     asks_made run n g ask h all d j =
         let p = piece_of fsdi n g (heard_lane fsdi g.talk ask h (field_answers ask g.lane.field).1 g.lane) in

@@ -3,8 +3,8 @@ use Rattle.std.proofs.Common.{◌≡◌, ◌⊎◌, inl, inr, ⊎_elim, ℕ, zer
 use Rattle.std.specs.Prelude.{All, if◌then◌else◌}
 use Rattle.std.proofs.lemmas.Bool.Decides.{leb_tells, eqb_tells}
 use Rattle.std.proofs.lemmas.List.Elements.{All-nil, All-cons, All-head, All-tail}
-use Rattle.law_turns.specs.Order.{Order, listed, lowest, or_else, in_round, round_turn, turn_by, next_turn}
-use Rattle.law_turns.specs.Turning.{IsLane, TurnIs, TurnsAreLive}
+use Rattle.ep_claim.specs.Lanes.Order.{Order, listed, lowest, or_else, in_round, round_turn, turn_by, next_turn}
+use Rattle.ep_claim.specs.Lanes.Turning.{IsLane, TurnIs, TurnsAreLive}
 
 module _ (live : ℕ → Bool) where
   -- ---- in rising order

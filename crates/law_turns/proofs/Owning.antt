@@ -2,15 +2,15 @@
 use Rattle.std.proofs.Common.{◌≡◌, ℕ, zero, suc, ◌+◌, ◌<◌, Bool, true, false, List, [], ◌∷◌, ◌++◌, length, drop, refl, sym, ap, subst, ◌∙◌, append_assoc, append-nil, arith, Option, Some, None}
 use Rattle.std.specs.Prelude.{◌==◌, if◌then◌else◌}
 use Rattle.std.proofs.Math.Seq.{drop-append_seam, drop-length}
-use Rattle.ep_base.specs.Hearing.{Asked}
-use Rattle.ep_base.specs.Lanes.{times}
-use Rattle.law_lane.specs.Standing.{asked_by}
-use Rattle.law_lane.specs.Exchanges.{field_answers, or_silence}
-use Rattle.law_turns.specs.Order.{Order}
-use Rattle.law_turns.specs.LaneText.{Job, Going, Piece, after_text, opens, trace_part, heard_lane, piece_of}
-use Rattle.law_turns.specs.WholeRun.{open_probe, Run, asks, run_step, run_after, opening_lanes, opened_run}
-use Rattle.law_turns.specs.Pieces.{of_lane, opening_pieces, turn_piece, step_piece, step_pieces, pieces_after}
-use Rattle.law_turns.specs.Telling.{jobs_of}
+use Rattle.ep_base.specs.Air.Heard.{Ask}
+use Rattle.ep_claim.specs.Lanes.Steps.{times}
+use Rattle.ep_claim.specs.Lanes.Standing.{asked_by}
+use Rattle.ep_claim.specs.Lanes.Exchanges.{field_answers, or_silence}
+use Rattle.ep_claim.specs.Lanes.Order.{Order}
+use Rattle.ep_claim.specs.Lanes.LaneText.{Job, Going, Piece, after_text, opens, trace_part, heard_lane, piece_of}
+use Rattle.ep_claim.specs.Lanes.WholeRun.{open_probe, Run, asks, run_step, run_after, opening_lanes, opened_run}
+use Rattle.ep_claim.specs.Lanes.Pieces.{of_lane, opening_pieces, turn_piece, step_piece, step_pieces, pieces_after}
+use Rattle.ep_claim.specs.Lanes.Telling.{jobs_of}
 use Rattle.law_turns.proofs.Stepping.{choose, times_end, by_step}
 
 -- ---- pieces of one lane
@@ -45,7 +45,7 @@ piece_is p text going e d = ap (λ t. piece t p.going) e ∙ ap (λ g. piece tex
 module _ (traced : Bool) (fsdi lane : ℕ) where
   -- ---- a lane by itself
 
-  abbrev pub own_by : Going → Option Asked → Piece
+  abbrev pub own_by : Going → Option Ask → Piece
   own_by g None = record { text = []; going = Some g }
   own_by g (Some ask) =
       after_text (trace_part traced lane ask (or_silence (field_answers ask g.lane.field).0))
@@ -85,7 +85,7 @@ module _ (traced : Bool) (fsdi lane : ℕ) where
           (last_of_lane lane n xs text ∙ (ap (λ t. of_lane lane xs ++ t) (nothing (lane == n) text (drop-length run.text)) ∙ append-nil (of_lane lane xs)))
 
       -- the exchange of this lane
-      heard_own : (n : ℕ) (g : Going) (ask : Asked) → run.lanes n ≡ Some g → asked_by fsdi g.lane.standing.doing ≡ Some ask → lane ≡ n
+      heard_own : (n : ℕ) (g : Going) (ask : Ask) → run.lanes n ≡ Some g → asked_by fsdi g.lane.standing.doing ≡ Some ask → lane ≡ n
           → IsOwn jobs (piece_of fsdi n g (heard_lane fsdi g.talk ask (or_silence (field_answers ask g.lane.field).0) (field_answers ask g.lane.field).1 g.lane)).going
           (of_lane lane xs
           ++ (trace_part traced n ask (or_silence (field_answers ask g.lane.field).0)
@@ -102,7 +102,7 @@ module _ (traced : Bool) (fsdi lane : ℕ) where
           subst (λ m. IsOwn jobs (piece_of fsdi m g l).going (of_lane lane xs ++ (trace_part traced m ask h ++ (piece_of fsdi m g l).text))) e asks_so
 
       -- the exchange of any lane
-      hears_own : (n : ℕ) (o : Order) (g : Going) (ask : Asked) → run.lanes n ≡ Some g → asked_by fsdi g.lane.standing.doing ≡ Some ask
+      hears_own : (n : ℕ) (o : Order) (g : Going) (ask : Ask) → run.lanes n ≡ Some g → asked_by fsdi g.lane.standing.doing ≡ Some ask
           → Holds (Some (n, o)) (asks traced open_probe fsdi n o g (Some ask) run)
       hears_own n o g ask d x =
           let h = or_silence (field_answers ask g.lane.field).0 in

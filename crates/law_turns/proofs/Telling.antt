@@ -2,18 +2,18 @@
 use Rattle.std.proofs.Common.{◌≡◌, ℕ, zero, suc, ◌+◌, Bool, false, List, [], ◌∷◌, ◌++◌, length, length-append, drop, refl, sym, ap, subst, ◌∙◌, append_assoc, append-nil, arith, Option, Some, None}
 use Rattle.std.proofs.Math.Seq.{drop-append_seam}
 use Rattle.std.proofs.lemmas.Grind.{flat_map-append}
-use Rattle.ep_base.specs.Hearing.{Asked}
-use Rattle.ep_base.specs.ReportLine.{line_of}
-use Rattle.ep_base.specs.Said.{Said}
-use Rattle.ep_base.specs.Talk.{Talk}
-use Rattle.ep_base.specs.WrittenText.{event_lines, log_lines, lane_text_from}
-use Rattle.law_lane.specs.Standing.{started, asked_by, events_of}
-use Rattle.law_lane.specs.Exchanges.{Lane, field_answers, or_silence, goes_by, lane_step, lane_after, opened_lane}
+use Rattle.ep_base.specs.Air.Heard.{Ask}
+use Rattle.ep_claim.specs.Text.ReportLine.{line_of}
+use Rattle.ep_rules.specs.EntryPoint.Event.{Said}
+use Rattle.ep_rules.specs.EntryPoint.Talk.{Talk}
+use Rattle.ep_claim.specs.Text.WrittenText.{event_lines, log_lines, lane_text_from}
+use Rattle.ep_claim.specs.Lanes.Standing.{started, asked_by, events_of}
+use Rattle.ep_claim.specs.Lanes.Exchanges.{Lane, field_answers, or_silence, goes_by, lane_step, lane_after, opened_lane}
 use Rattle.law_lane.proofs.Following.{events_grow_law}
-use Rattle.law_turns.specs.LaneText.{Job, Going, Piece, opens_by, opens, added, trace_part, heard_lane, goes_on, piece_of}
-use Rattle.law_turns.specs.WholeRun.{open_probe, is_live, run_after}
-use Rattle.law_turns.specs.Pieces.{of_lane, pieces_after}
-use Rattle.law_turns.specs.Telling.{jobs_of, job_after, IsOverAt, exchange_by, exchanges_text, job_text, whole_text, AreTold, Stands, LaneTells, KeepsInRun, RunsTell, AreEnds, TellsReport}
+use Rattle.ep_claim.specs.Lanes.LaneText.{Job, Going, Piece, opens_by, opens, added, trace_part, heard_lane, goes_on, piece_of}
+use Rattle.ep_claim.specs.Lanes.WholeRun.{open_probe, is_live, run_after}
+use Rattle.ep_claim.specs.Lanes.Pieces.{of_lane, pieces_after}
+use Rattle.ep_claim.specs.Lanes.Telling.{jobs_of, job_after, IsOverAt, exchange_by, exchanges_text, job_text, whole_text, AreTold, Stands, LaneTells, KeepsInRun, RunsTell, AreEnds, TellsReport}
 use Rattle.law_turns.proofs.Ordering.{Anyhow, anyhow}
 use Rattle.law_turns.proofs.Stepping.{times_end, no_going}
 use Rattle.law_turns.proofs.Owning.{own_by, own_turn, own_after, own_in_run}
@@ -64,7 +64,7 @@ module _ (traced : Bool) (fsdi lane : ℕ) where
     opens_tell (j ∷ js) before done txn all number told =
         let events : List ℕ = event_lines lane txn (events_of j.talk (started j.talk)) in
         let rest = opens fsdi lane (txn + 1) js in
-        elim (asked_by fsdi (started j.talk).doing) as (λ (a : Option Asked). asked_by fsdi (started j.talk).doing ≡ a → Tells done (opens_by lane txn j js rest a)) [
+        elim (asked_by fsdi (started j.talk).doing) as (λ (a : Option Ask). asked_by fsdi (started j.talk).doing ≡ a → Tells done (opens_by lane txn j js rest a)) [
           | Some ask ↦ λ e. record {
             before = before;
             job = j;
@@ -109,7 +109,7 @@ module _ (traced : Bool) (fsdi lane : ℕ) where
       last_events n = event_lines lane txn (added job.talk (job_after fsdi job n).standing (job_after fsdi job (suc n)).standing)
 
       -- with an exchange more
-      wrote_more : (n : ℕ) (ask : Asked) → asked_by fsdi (job_after fsdi job n).standing.doing ≡ Some ask
+      wrote_more : (n : ℕ) (ask : Ask) → asked_by fsdi (job_after fsdi job n).standing.doing ≡ Some ask
           → so_far (suc n) ≡ so_far n ++ (trace_part traced lane ask (or_silence (field_answers ask (job_after fsdi job n).field).0) ++ last_events n)
       wrote_more n ask e =
           let l = job_after fsdi job n in
@@ -125,7 +125,7 @@ module _ (traced : Bool) (fsdi lane : ℕ) where
           ap (λ t. done ++ (events ++ t)) both ∙ (ap (λ t. done ++ t) (sym (append_assoc events old new)) ∙ sym (append_assoc done (events ++ old) new))
 
       -- after it the lane waits, or goes on with its next transactions
-      goes_tell : (n : ℕ) (head : List ℕ) → so_far (suc n) ≡ so_far n ++ (head ++ last_events n) → (a : Option Asked) → asked_by fsdi (job_after fsdi job (suc n)).standing.doing ≡ a
+      goes_tell : (n : ℕ) (head : List ℕ) → so_far (suc n) ≡ so_far n ++ (head ++ last_events n) → (a : Option Ask) → asked_by fsdi (job_after fsdi job (suc n)).standing.doing ≡ a
           → LaneTells traced fsdi lane jobs (so_far n ++ (head ++ (last_events n ++ (goes_on fsdi lane (going_at n) (job_after fsdi job (suc n)) a).text)))
           (goes_on fsdi lane (going_at n) (job_after fsdi job (suc n)) a).going
       goes_tell n head e (Some ask) x =
@@ -152,7 +152,7 @@ module _ (traced : Bool) (fsdi lane : ℕ) where
       exchange_tells : (n : ℕ) → Tells (so_far n) (own_turn traced fsdi lane (Some (going_at n)))
       exchange_tells n =
           let l = job_after fsdi job n in
-          elim (asked_by fsdi l.standing.doing) as (λ (a : Option Asked). asked_by fsdi l.standing.doing ≡ a → Tells (so_far n) (own_by traced fsdi lane (going_at n) a)) [
+          elim (asked_by fsdi l.standing.doing) as (λ (a : Option Ask). asked_by fsdi l.standing.doing ≡ a → Tells (so_far n) (own_by traced fsdi lane (going_at n) a)) [
             | None ↦ λ e. stands_at n (so_far n ++ []) (append-nil (so_far n))
             | Some ask ↦ λ e.
                 let h = or_silence (field_answers ask l.field).0 in
@@ -210,7 +210,7 @@ module _ (fsdi lane txn : ℕ) (talk : Talk) where
   -- an exchange tells the events that it adds
   exchange_tells_events : (l : Lane) → said l ++ exchange_by false fsdi lane txn talk l (asked_by fsdi l.standing.doing) ≡ said (lane_step fsdi talk l)
   exchange_tells_events l =
-      elim (asked_by fsdi l.standing.doing) as (λ (a : Option Asked). asked_by fsdi l.standing.doing ≡ a → said l ++ exchange_by false fsdi lane txn talk l a ≡ said (lane_step fsdi talk l)) [
+      elim (asked_by fsdi l.standing.doing) as (λ (a : Option Ask). asked_by fsdi l.standing.doing ≡ a → said l ++ exchange_by false fsdi lane txn talk l a ≡ said (lane_step fsdi talk l)) [
         | None ↦ λ e. append-nil (said l) ∙ ap (λ o. said (goes_by fsdi talk o l)) (sym e)
         | Some ask ↦ λ e.
             let old = events_of talk l.standing in

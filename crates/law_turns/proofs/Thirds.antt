@@ -2,26 +2,26 @@
 use Rattle.std.proofs.Common.{◌≡◌, ℕ, zero, suc, ◌+◌, ◌≤◌, Bool, true, false, List, [], ◌∷◌, ◌++◌, refl, sym, ap, subst, ◌∙◌, arith, Option, Some, None}
 use Rattle.std.specs.Prelude.{if◌then◌else◌, nat_lt, nat_le}
 use Rattle.std.proofs.lemmas.Bool.Decides.{nat_tests}
-use Rattle.ep_base.specs.Block.{I, RAck, RNak, Deselect, Wtx, Heard, Bad, Junk, Intact, same, is_bad, is_wtx, is_nak, count}
-use Rattle.ep_base.specs.Hearing.{Asked, Hearing, RoundEnd, Empty, Collision, Unsupported, Broken, Found}
-use Rattle.ep_base.specs.Hearing as rounds
-use Rattle.ep_base.specs.LinkFrames.{LinkSetting, heard_block}
-use Rattle.ep_base.specs.Radio.{OpenLink}
-use Rattle.ep_base.specs.ReaderEnd.{Phase, Idle, Sending, Receiving, Reader, Turn, Asks, Gives, Spends, Breaks, asked, is_fit, appended, takes, on_i, on_ack, on_bad, on_wtx, kept, reader_hears}
-use Rattle.ep_base.specs.Round.{Stage, round_hears}
-use Rattle.ep_base.specs.Talk.{Talk, Result, Round, Response, Closed, Wish, Polls, Commands, Closes, Nothing, so_far}
-use Rattle.ep_base.specs.TransportRun.{HearEnd, Whole, AtLink, AtBreach, AtDevice}
-use Rattle.law_lane.specs.Exchanges.{Lane, field_answers, or_silence, opened_lane, goes_by, lane_step, lane_after}
-use Rattle.law_lane.specs.Standing.{Doing, Rounds, Carries, Closing, Stopped, Astray, doing_by, standing, asks_block, asked_by, link_by, after_stage, after_turn, hears_by}
-use Rattle.law_turns.specs.LaneText.{Job}
-use Rattle.law_turns.specs.Telling.{job_after}
-use Rattle.law_turns.specs.Thirds.{AsksAt, IsThirdBad, FailsAtThird, FailsOnlyAtThird, TwoBadAtMost, FailsExactlyAtThird}
+use Rattle.ep_base.specs.Link.Block.{I, RAck, RNak, Deselect, Wtx, ReadBlock, Bad, Junk, Intact, same, is_bad, is_wtx, is_nak, count}
+use Rattle.ep_base.specs.Air.Heard.{Ask, Heard, RoundEnd, Empty, Collision, Unsupported, Broken, Found}
+use Rattle.ep_base.specs.Air.Heard as rounds
+use Rattle.ep_base.specs.Link.LinkFrames.{LinkSetting, heard_block}
+use Rattle.ep_base.specs.Poll.Radio.{OpenLink}
+use Rattle.ep_base.specs.Link.ReaderEnd.{Phase, Idle, Sending, Receiving, Reader, Turn, Asks, Gives, Spends, Breaks, asked, is_fit, appended, takes, on_i, on_ack, on_bad, on_wtx, kept, reader_hears}
+use Rattle.ep_base.specs.Poll.Round.{Stage, round_hears}
+use Rattle.ep_rules.specs.EntryPoint.Talk.{Talk, Result, Round, Response, Closed, Wish, Polls, Commands, Closes, Nothing, so_far}
+use Rattle.ep_rules.specs.EntryPoint.TransportRun.{HearEnd, Whole, AtLink, AtBreach, AtDevice}
+use Rattle.ep_claim.specs.Lanes.Exchanges.{Lane, field_answers, or_silence, opened_lane, goes_by, lane_step, lane_after}
+use Rattle.ep_claim.specs.Lanes.Standing.{Doing, Rounds, Carries, Closing, Stopped, Astray, doing_by, standing, asks_block, asked_by, link_by, after_stage, after_turn, hears_by}
+use Rattle.ep_claim.specs.Lanes.LaneText.{Job}
+use Rattle.ep_claim.specs.Lanes.Telling.{job_after}
+use Rattle.ep_claim.specs.Promise.Thirds.{AsksAt, IsThirdBad, FailsAtThird, FailsOnlyAtThird, TwoBadAtMost, FailsExactlyAtThird}
 use Rattle.law_turns.proofs.Stepping.{times_end}
 
 -- ---- a hearing of an open command
 
 -- What a turn after this hearing leaves: at most two bad hearings where it goes on, and a link is spent by a third one alone.
-abbrev Falls : Reader → Heard → Turn → Type 0
+abbrev Falls : Reader → ReadBlock → Turn → Type 0
 Falls r h (Asks q) = count is_bad q.since ≤ 2
 Falls r h (Gives response q) = count is_bad q.since ≤ 2
 Falls r h (Spends q) = (h ≡ Bad) × (count is_bad r.since ≡ 2)
@@ -41,26 +41,26 @@ module _ (frame : ℕ) (r : Reader) (few : count is_bad r.since ≤ 2) where
         | false ↦ λ e. (refl, third (count is_bad r.since) few e)
       ] refl
 
-  falls_part : (h : Heard) (got inf : List ℕ) (ch : Bool) → Falls r h (takes frame got ch inf r)
+  falls_part : (h : ReadBlock) (got inf : List ℕ) (ch : Bool) → Falls r h (takes frame got ch inf r)
   falls_part h got inf true =
       elim (is_fit frame got true inf) as (λ (b : Bool). Falls r h (if b then appended got true inf r else Breaks r)) [ true ↦ omega arith | false ↦ tt ]
   falls_part h got inf false =
       elim (is_fit frame got false inf) as (λ (b : Bool). Falls r h (if b then appended got false inf r else Breaks r)) [ true ↦ omega arith | false ↦ tt ]
 
-  falls_i : (h : Heard) (phase : Phase) (ch : Bool) (inf : List ℕ) → Falls r h (on_i frame phase ch inf r)
+  falls_i : (h : ReadBlock) (phase : Phase) (ch : Bool) (inf : List ℕ) → Falls r h (on_i frame phase ch inf r)
   falls_i h Idle ch inf = tt
   falls_i h (Sending part []) ch inf = falls_part h [] inf ch
   falls_i h (Sending part (next ∷ left)) ch inf = tt
   falls_i h (Receiving got) ch inf = falls_part h got inf ch
 
-  falls_ack : (h : Heard) (phase : Phase) → Falls r h (on_ack phase r)
+  falls_ack : (h : ReadBlock) (phase : Phase) → Falls r h (on_ack phase r)
   falls_ack h Idle = tt
   falls_ack h (Sending part []) = tt
   falls_ack h (Sending part (next ∷ left)) = omega arith
   falls_ack h (Receiving got) = tt
 
   -- whatever is heard
-  falls : (h : Heard) → Falls r h (reader_hears frame r h)
+  falls : (h : ReadBlock) → Falls r h (reader_hears frame r h)
   falls Bad = falls_bad
   falls Junk = tt
   falls (Intact (I k ch inf)) =
@@ -130,12 +130,12 @@ few_link fsdi Broken = tt
 few_link fsdi (Found card) = omega arith
 
 -- An exchange of this standing is the third bad one of its open command.
-abbrev IsThird : Doing → Hearing → Type 0
+abbrev IsThird : Doing → Heard → Type 0
 IsThird d heard =
     (link : OpenLink) × (d ≡ Carries link) × (count is_bad link.reader.since ≡ 2)
     × (heard_block link.set.kind link.set.frames.reader heard ≡ Bad)
 
-abbrev or_ask : Asked → Option Asked → Asked
+abbrev or_ask : Ask → Option Ask → Ask
 or_ask a None = a
 or_ask a (Some b) = b
 
@@ -148,14 +148,14 @@ module _ (fsdi : ℕ) (talk : Talk) where
   stage_fails_no_link results (rounds.Goes stage) = refl
   stage_fails_no_link results (rounds.Ends e) = wish_fails_no_link (so_far talk (results ++ Round e ∷ [])).wish (link_by fsdi e)
 
-  few_turn : (results : List Result) (set : LinkSetting) (r : Reader) (h : Heard) (t : Turn) → Falls r h t → Few (after_turn talk results set t).doing
+  few_turn : (results : List Result) (set : LinkSetting) (r : Reader) (h : ReadBlock) (t : Turn) → Falls r h t → Few (after_turn talk results set t).doing
   few_turn results set r h (Asks q) f = f
   few_turn results set r h (Gives response q) f =
       few_wish (so_far talk (results ++ Response response ∷ [])).wish (Some (record { set = set; reader = q })) f
   few_turn results set r h (Spends q) f = tt
   few_turn results set r h (Breaks q) f = tt
 
-  third_turn : (results : List Result) (set : LinkSetting) (r : Reader) (h : Heard) (t : Turn) → Falls r h t
+  third_turn : (results : List Result) (set : LinkSetting) (r : Reader) (h : ReadBlock) (t : Turn) → Falls r h t
       → (after_turn talk results set t).doing ≡ Stopped AtLink → (h ≡ Bad) × (count is_bad r.since ≡ 2)
   third_turn results set r h (Asks q) f e = absurd (not_failed (Carries (record { set = set; reader = q })) refl e)
   third_turn results set r h (Gives response q) f e =
@@ -165,7 +165,7 @@ module _ (fsdi : ℕ) (talk : Talk) where
   third_turn results set r h (Spends q) f e = f
   third_turn results set r h (Breaks q) f e = absurd (not_failed (Stopped AtBreach) refl e)
 
-  few_by : (results : List Result) (heard : Hearing) (d : Doing) → Few d → Few (hears_by fsdi talk results heard d).doing
+  few_by : (results : List Result) (heard : Heard) (d : Doing) → Few d → Few (hears_by fsdi talk results heard d).doing
   few_by results heard (Rounds stage) few = few_stage results (round_hears stage heard)
   few_by results heard (Carries l) few =
       let h = heard_block l.set.kind l.set.frames.reader heard in
@@ -174,7 +174,7 @@ module _ (fsdi : ℕ) (talk : Talk) where
   few_by results heard (Stopped ending) few = tt
   few_by results heard Astray few = tt
 
-  third_by : (results : List Result) (heard : Hearing) (ask : Asked) (d : Doing) → Few d → asked_by fsdi d ≡ Some ask
+  third_by : (results : List Result) (heard : Heard) (ask : Ask) (d : Doing) → Few d → asked_by fsdi d ≡ Some ask
       → (hears_by fsdi talk results heard d).doing ≡ Stopped AtLink → IsThird d heard
   third_by results heard ask (Rounds stage) few asks e =
       absurd (not_failed (after_stage fsdi talk results (round_hears stage heard)).doing (stage_fails_no_link results (round_hears stage heard)) e)
@@ -188,7 +188,7 @@ module _ (fsdi : ℕ) (talk : Talk) where
   third_by results heard ask (Stopped ending) few asks e = absurd (let clash : None ≡ Some ask = asks in cc)
   third_by results heard ask Astray few asks e = absurd (let clash : None ≡ Some ask = asks in cc)
 
-  few_goes : (o : Option Asked) (l : Lane) → Few l.standing.doing → Few (goes_by fsdi talk o l).standing.doing
+  few_goes : (o : Option Ask) (l : Lane) → Few l.standing.doing → Few (goes_by fsdi talk o l).standing.doing
   few_goes None l few = few
   few_goes (Some ask) l few = few_by l.standing.results (or_silence (field_answers ask l.field).0) l.standing.doing few
 
@@ -197,12 +197,12 @@ module _ (fsdi : ℕ) (talk : Talk) where
   few_after (suc n) l few = few_after n (lane_step fsdi talk l) (few_goes (asked_by fsdi l.standing.doing) l few)
 
   -- the exchange of a lane with which its link fails
-  third_at : (l : Lane) (ask : Asked) → Few l.standing.doing → asked_by fsdi l.standing.doing ≡ Some ask
+  third_at : (l : Lane) (ask : Ask) → Few l.standing.doing → asked_by fsdi l.standing.doing ≡ Some ask
       → (lane_step fsdi talk l).standing.doing ≡ Stopped AtLink → IsThird l.standing.doing (or_silence (field_answers ask l.field).0)
   third_at l ask few asks e =
       let heard = or_silence (field_answers ask l.field).0 in
       third_by l.standing.results heard ask l.standing.doing few asks
-      (ap (λ (o : Option Asked). (goes_by fsdi talk o l).standing.doing) (sym asks) ∙ e)
+      (ap (λ (o : Option Ask). (goes_by fsdi talk o l).standing.doing) (sym asks) ∙ e)
 
 -- ---- a transaction over its own field
 
@@ -218,7 +218,7 @@ only_third_lem fsdi j n (ask, asks) fails =
     let e = ap (λ (k : Lane). k.standing.doing) (sym (next_is fsdi j n)) ∙ fails in
     let (link, carries, two, bad) = third_at fsdi j.talk l ask (few_at fsdi j n) asks e in
     let same : ask ≡ asks_block link.set (asked link.reader) =
-    ap (λ (o : Option Asked). or_ask ask o) (sym asks ∙ ap (λ (d : Doing). asked_by fsdi d) carries) in
+    ap (λ (o : Option Ask). or_ask ask o) (sym asks ∙ ap (λ (d : Doing). asked_by fsdi d) carries) in
     record {
       link = link;
       carries = carries;
@@ -233,10 +233,10 @@ two_bad_lem fsdi j n link carries = subst Few carries (few_at fsdi j n)
 
 module _ (fsdi : ℕ) (talk : Talk) (l : Lane) (link : OpenLink) (carries : l.standing.doing ≡ Carries link)
     (two : count is_bad link.reader.since ≡ 2) where
-  abbrev ask : Asked
+  abbrev ask : Ask
   ask = asks_block link.set (asked link.reader)
 
-  abbrev heard : Heard
+  abbrev heard : ReadBlock
   heard = heard_block link.set.kind link.set.frames.reader (or_silence (field_answers ask l.field).0)
 
   -- the reader with one more bad hearing
@@ -247,7 +247,7 @@ module _ (fsdi : ℕ) (talk : Talk) (l : Lane) (link : OpenLink) (carries : l.st
   step_fails bad =
       ap (λ (d : Doing). (goes_by fsdi talk (asked_by fsdi d) l).standing.doing) carries
       ∙ (ap (λ (d : Doing). (hears_by fsdi talk l.standing.results (or_silence (field_answers ask l.field).0) d).doing) carries
-      ∙ (ap (λ (h : Heard). (after_turn talk l.standing.results link.set (reader_hears link.set.frames.reader link.reader h)).doing) bad
+      ∙ (ap (λ (h : ReadBlock). (after_turn talk l.standing.results link.set (reader_hears link.set.frames.reader link.reader h)).doing) bad
       ∙ ap (λ (n : ℕ). (after_turn talk l.standing.results link.set (if nat_lt (suc n) 3 then Asks worse else Spends worse)).doing) two))
 
 pub third_lem : (fsdi : ℕ) (j : Job) → FailsAtThird fsdi j

@@ -2,13 +2,13 @@
 use Rattle.std.proofs.Common.{◌≡◌, ℕ, true, false, List, [], ◌∷◌, refl, replicate}
 use Rattle.ep_base.specs.declared.air.CardKind.TheVariants as kinds
 use Rattle.ep_base.specs.declared.air.Wave.TheVariants.{ABare}
-use Rattle.ep_base.specs.Block.{I, RAck, Heard, Bad, Intact}
-use Rattle.ep_base.specs.Hearing.{Hearing, Silence, Noise, Overlap, Frame, Activated, Found}
-use Rattle.ep_base.specs.Hearing as rounds
-use Rattle.ep_base.specs.ReaderEnd.{Reader, Turn, Asks, Gives, Spends, Breaks, Idle, reader_hears, begin}
-use Rattle.ep_base.specs.Said.{Finished}
-use Rattle.ep_base.specs.Talk.{Talk, Over, Poll}
-use Rattle.law_turns.specs.Bounds.{Counts, no_counts, count_round, count_turn, count_closing, counts_after}
+use Rattle.ep_base.specs.Link.Block.{I, RAck, ReadBlock, Bad, Intact}
+use Rattle.ep_base.specs.Air.Heard.{Heard, Silence, Noise, Overlap, Frame, Activated, Found}
+use Rattle.ep_base.specs.Air.Heard as rounds
+use Rattle.ep_base.specs.Link.ReaderEnd.{Reader, Turn, Asks, Gives, Spends, Breaks, Idle, reader_hears, begin}
+use Rattle.ep_rules.specs.EntryPoint.Event.{Finished}
+use Rattle.ep_rules.specs.EntryPoint.Talk.{Talk, Over, Poll}
+use Rattle.ep_claim.specs.Promise.Counts.{Counts, no_counts, count_round, count_turn, count_closing, counts_after}
 
 -- ---- poll rounds
 
@@ -16,7 +16,7 @@ use Rattle.law_turns.specs.Bounds.{Counts, no_counts, count_round, count_turn, c
 abbrev polls_twice : Talk
 polls_twice = Poll (λ e. Poll (λ d. Over Finished))
 
-abbrev heard : List Hearing → Counts
+abbrev heard : List Heard → Counts
 heard hearings = counts_after 8 polls_twice hearings
 
 abbrev counts : (starts rounds round exchanges : ℕ) → Counts
@@ -65,7 +65,7 @@ found = refl
 -- ---- a command
 
 -- the counts over these hearings of an open command
-abbrev over : List Heard → Turn → Counts → Counts
+abbrev over : List ReadBlock → Turn → Counts → Counts
 over [] t c = c
 over (h ∷ hs) (Asks r) c = over hs (reader_hears 256 r h) (count_turn r (reader_hears 256 r h) c)
 over (h ∷ hs) (Gives a r) c = c

@@ -1,10 +1,10 @@
 -- The pieces of a run are its text.
 use Rattle.std.proofs.Common.{◌≡◌, ℕ, zero, suc, ◌+◌, Bool, List, [], ◌∷◌, ◌++◌, length, drop, refl, sym, ap, ◌∙◌, append_assoc, append-nil}
 use Rattle.std.proofs.Math.Seq.{drop-append_seam, drop-length}
-use Rattle.ep_base.specs.Lanes.{times}
-use Rattle.law_turns.specs.LaneText.{Job, opens}
-use Rattle.law_turns.specs.WholeRun.{ProbeSteps, Run, run_step, opening_text, opened_run}
-use Rattle.law_turns.specs.Pieces.{written, opening_pieces, turn_piece, step_piece, step_pieces, PiecesAreText}
+use Rattle.ep_claim.specs.Lanes.Steps.{times}
+use Rattle.ep_claim.specs.Lanes.LaneText.{Job, opens}
+use Rattle.ep_claim.specs.Lanes.WholeRun.{ProbeSteps, Run, run_step, opening_text, opened_run}
+use Rattle.ep_claim.specs.Lanes.Pieces.{written, opening_pieces, turn_piece, step_piece, step_pieces, PiecesAreText}
 use Rattle.law_turns.proofs.Stepping.{by_step}
 
 pub written_append : (xs ys : List (ℕ × List ℕ)) → written (xs ++ ys) ≡ written xs ++ written ys

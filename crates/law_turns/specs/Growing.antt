@@ -1,15 +1,15 @@
 -- A run's text grows, and a run that is over stays as it is (this project's own).
 use Rattle.std.specs.Prelude.{◌≡◌, ℕ, ◌+◌, ◌*◌, ◌≤◌, Bool, List, ◌++◌, length, All}
-use Rattle.ep_base.specs.EntryPoint.{transaction}
-use Rattle.ep_base.specs.Kernel.{Scripted, scripted}
-use Rattle.ep_base.specs.PreProcessing.{Ready}
-use Rattle.ep_base.specs.Talk.{Talk}
-use Rattle.law_run.specs.Bounds.{log_bound}
-use Rattle.ep_base.specs.KernelCommands.{ScriptedSends}
-use Rattle.law_turns.specs.LaneText.{Job}
-use Rattle.law_turns.specs.WholeRun.{ProbeSteps, run_after}
-use Rattle.law_turns.specs.Counting.{exchanges_most}
-use Rattle.law_turns.specs.Ending.{HasEnded}
+use Rattle.ep_rules.specs.EntryPoint.Transaction.{transaction}
+use Rattle.ep_rules.specs.EntryPoint.Kernel.{Scripted, scripted}
+use Rattle.ep_rules.specs.EntryPoint.PreProcessing.{Ready}
+use Rattle.ep_rules.specs.EntryPoint.Talk.{Talk}
+use Rattle.ep_rules.specs.EntryPoint.Bounds.{log_bound}
+use Rattle.ep_rules.specs.EntryPoint.KernelCommands.{ScriptedSends}
+use Rattle.ep_claim.specs.Lanes.LaneText.{Job}
+use Rattle.ep_claim.specs.Lanes.WholeRun.{ProbeSteps, run_after}
+use Rattle.ep_claim.specs.Lanes.Counting.{exchanges_most}
+use Rattle.ep_claim.specs.Lanes.Ending.{HasEnded}
 
 -- What was written is the beginning of what is written after more exchanges (this project's own).
 abbrev pub TextsGrow : {P : Type 0} → ProbeSteps P → Type 0

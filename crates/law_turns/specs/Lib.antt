@@ -1,15 +1,1 @@
-pub mod Apart
-pub mod Bounds
-pub mod Counting
-pub mod Ending
 pub mod Growing
-pub mod Keeping
-pub mod LanePromise
-pub mod LaneText
-pub mod Logs
-pub mod Order
-pub mod Pieces
-pub mod Telling
-pub mod Thirds
-pub mod Turning
-pub mod WholeRun

@@ -3,20 +3,20 @@
 //! `specs/` states the order of the exchanges, what each lane writes with each of its own, the run, and the laws.
 #![tactic(auto)]
 
-ghost use Rattle.ep_base.specs.Kernel.{KernelSteps};
-ghost use Rattle.law_turns.specs.Apart.{LanesApart, OthersStay};
-ghost use Rattle.law_turns.specs.Bounds.{AreUnderWay, BoundedCount};
-ghost use Rattle.law_turns.specs.Counting.{EveryExchangeCounts, TransactionsAreBounded};
-ghost use Rattle.law_turns.specs.Ending.{OneEnd, RunsEnd, RunsEndWithin};
+ghost use Rattle.ep_rules.specs.EntryPoint.Kernel.{KernelSteps};
+ghost use Rattle.ep_claim.specs.Lanes.Apart.{LanesApart, OthersStay};
+ghost use Rattle.ep_claim.specs.Promise.Counts.{AreUnderWay, BoundedCount};
+ghost use Rattle.ep_claim.specs.Lanes.Counting.{EveryExchangeCounts, TransactionsAreBounded};
+ghost use Rattle.ep_claim.specs.Lanes.Ending.{OneEnd, RunsEnd, RunsEndWithin};
 ghost use Rattle.law_turns.specs.Growing.{RunsEndInMost, RunsStay, TextsGrow};
-ghost use Rattle.law_turns.specs.Keeping.{TransactionsKeep};
-ghost use Rattle.law_turns.specs.LanePromise.{OneText, ToldKeep};
-ghost use Rattle.law_turns.specs.Logs.{LogsFit};
-ghost use Rattle.law_turns.specs.Pieces.{PiecesAreText};
-ghost use Rattle.law_turns.specs.Telling.{KeepsInRun, RunsTell, TellsReport};
-ghost use Rattle.law_turns.specs.Thirds.{FailsExactlyAtThird};
-ghost use Rattle.law_turns.specs.Turning.{TurnsAreLive};
-ghost use Rattle.law_turns.specs.WholeRun.{ProbeSteps};
+ghost use Rattle.ep_claim.specs.Promise.Transaction.{TransactionsKeep};
+ghost use Rattle.ep_claim.specs.Promise.Lane.{OneText, ToldKeep};
+ghost use Rattle.ep_claim.specs.Promise.Logs.{LogsFit};
+ghost use Rattle.ep_claim.specs.Lanes.Pieces.{PiecesAreText};
+ghost use Rattle.ep_claim.specs.Lanes.Telling.{KeepsInRun, RunsTell, TellsReport};
+ghost use Rattle.ep_claim.specs.Promise.Thirds.{FailsExactlyAtThird};
+ghost use Rattle.ep_claim.specs.Lanes.Turning.{TurnsAreLive};
+ghost use Rattle.ep_claim.specs.Lanes.WholeRun.{ProbeSteps};
 
 /// A turn is that of a lane that has an exchange left, one of those that are numbered from 1 on; and it is no one's only
 /// where none of these lanes has one left.

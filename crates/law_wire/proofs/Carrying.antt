@@ -2,22 +2,22 @@
 use Rattle.std.proofs.Common.{◌≡◌, ◌⊎◌, ℕ, ◌-◌, ◌≤◌, Bool, true, false, List, [], ◌∷◌, ◌++◌, Option, Some, refl, sym, ap, ◌∙◌, subst, inl, inr, ⊎_elim, arith, append-nil, append_assoc, le-leb, length-append}
 use Rattle.std.specs.Prelude.{◌+◌, ◌<◌, nat_lt, length, unwrap_or}
 use Rattle.ep_base.specs.declared.air.CardKind.{CardKind}
-use Rattle.ep_base.specs.Hearing.{Framed, Hearing, Silence, wave_of_kind}
-use Rattle.ep_base.specs.Frame.{sealed}
-use Rattle.ep_base.specs.Medium.{told}
-use Rattle.ep_base.specs.Air.{ArePassages, AllPass, Leg, next_fate, gone_by, later}
-use Rattle.ep_base.specs.Apdu.{is_command}
-use Rattle.ep_base.specs.Block.{Block, Heard, other, is_bad, count}
-use Rattle.ep_base.specs.Parts.{cut}
-use Rattle.ep_base.specs.CardAnswer as Images
-use Rattle.ep_base.specs.CardAnswer.{IsAnswer, card_answer}
-use Rattle.ep_base.specs.CardEnd.{Image, Card, Answer, Parts, card_hears, is_halted, records, unlogged}
-use Rattle.ep_base.specs.ReaderEnd.{Reader, Turn, Asks, Gives, Spends, Breaks, Sending, asked, reader_hears, begin}
-use Rattle.ep_base.specs.Link.{goes_down, comes_up}
-use Rattle.ep_base.specs.Spelling.{spelled}
-use Rattle.ep_base.specs.LinkFrames.{LinkSetting, heard_block}
-use Rattle.ep_base.specs.Wire.{Heeded, Wire, wire, wire_heeds, moved, unmoved, answers_by, takes_block, maybe_frame, aired, comes_back, by_commands, image_after}
-use Rattle.ep_base.specs.Carry.{SendsBlock, GoesOn, Follows, AtRest, OfLink, AtMostOnce, Executed, OnceSo, CarriedOnce}
+use Rattle.ep_base.specs.Air.Heard.{Sent as Framed, Heard, Silence, wave_of_kind}
+use Rattle.ep_base.specs.Air.Frame.{sealed}
+use Rattle.ep_base.specs.Air.Medium.{told}
+use Rattle.ep_base.specs.Air.Fates.{ArePassages, AllPass, Way, next_fate, gone_by, later}
+use Rattle.ep_base.specs.Cards.Apdu.{is_command}
+use Rattle.ep_base.specs.Link.Block.{Block, ReadBlock, other, is_bad, count}
+use Rattle.ep_base.specs.Link.Parts.{cut}
+use Rattle.ep_base.specs.Cards.CardAnswer as Images
+use Rattle.ep_base.specs.Cards.CardAnswer.{IsAnswer, card_answer}
+use Rattle.ep_base.specs.Link.CardEnd.{Image, Card, Answer, Parts, card_hears, is_halted, records, unlogged}
+use Rattle.ep_base.specs.Link.ReaderEnd.{Reader, Turn, Asks, Gives, Spends, Breaks, Sending, asked, reader_hears, begin}
+use Rattle.ep_base.specs.Link.OneLink.{goes_down, comes_up}
+use Rattle.ep_base.specs.Link.Spelling.{spelled}
+use Rattle.ep_base.specs.Link.LinkFrames.{LinkSetting, heard_block}
+use Rattle.ep_base.specs.Link.Wire.{Heeded, Wire, wire, wire_heeds, moved, unmoved, answers_by, takes_block, maybe_frame, aired, comes_back, by_commands, image_after}
+use Rattle.ep_base.specs.Link.Carry.{SendsBlock, GoesOn, Follows, AtRest, OfLink, AtMostOnce, Executed, OnceSo, CarriedOnce}
 use Rattle.law_link.specs.Once.{IsImage, AreFrames, IsIdle}
 use Rattle.law_link.proofs.Exchange.{Place, Before, reader_at, card_at, Fine, Fits, GoodTurn, Keeps, log_at, taken, exchange, keeps}
 use Rattle.law_link.proofs.Cutting.{cut_joins}
@@ -125,14 +125,14 @@ module _ (set : LinkSetting) (w0 : Wire) (of : OfLink set w0) where
     may_send may true = may
     may_send may false = tt
 
-    record Exchanged (h : Hearing) (u : Wire) : Type 0 where
+    record Exchanged (h : Heard) (u : Wire) : Type 0 where
       down : Bool
       up : Bool
       heard : heard_block set.kind set.frames.reader h ≡ comes_up up (goes_down down set.frames image card b).block
       later : Shows u (goes_down down set.frames image card b).card
 
     -- one exchange over the wire is one over the link
-    one_exchange : MaySend set.frames.reader by_list.block → (h : Hearing) (u : Wire) → SendsBlock (told wire) set w b (Some h) u → Exchanged h u
+    one_exchange : MaySend set.frames.reader by_list.block → (h : Heard) (u : Wire) → SendsBlock (told wire) set w b (Some h) u → Exchanged h u
     one_exchange may h u e =
         let wave = wave_of_kind set.kind in
         let bytes = sealed (wave_of_kind set.kind) (spelled b) in
@@ -140,8 +140,8 @@ module _ (set : LinkSetting) (w0 : Wire) (of : OfLink set w0) where
         let down = down_law set.kind w b (sent_block b is) shows.fates in
         let done_it : Done heeded = subst Done (sym down.1) (done down.0) in
         let up = up_law set.kind set.frames.reader (goes_down done_it.down set.frames image card b).block (may_send may done_it.down) (next_fate w.air.fates).up (next_legs w.air.fates shows.fates).1 in
-        let hearing : comes_back (next_fate w.air.fates).up (aired heeded.answer) ≡ h = ap (λ (p : Option Hearing × Wire). unwrap_or p.0 Silence) e in
-        let then : moved w heeded ≡ u = ap (λ (p : Option Hearing × Wire). p.1) e in
+        let hearing : comes_back (next_fate w.air.fates).up (aired heeded.answer) ≡ h = ap (λ (p : Option Heard × Wire). unwrap_or p.0 Silence) e in
+        let then : moved w heeded ≡ u = ap (λ (p : Option Heard × Wire). p.1) e in
         record {
           down = done_it.down;
           up = up.0;
@@ -150,14 +150,14 @@ module _ (set : LinkSetting) (w0 : Wire) (of : OfLink set w0) where
         }
 
     -- an exchange whose frames pass: the card takes the block, and the reader hears what it answers
-    record Passed (h : Hearing) (u : Wire) : Type 0 where
+    record Passed (h : Heard) (u : Wire) : Type 0 where
       heard : heard_block set.kind set.frames.reader h ≡ comes_up true by_list.block
       later : Shows u by_list.card
       gone : u.air.gone ≡ false
       fates : AllPass u.air.fates
 
     passed_exchange : MaySend set.frames.reader by_list.block → w.air.gone ≡ false → AllPass w.air.fates → nat_lt (length w.log) w.room ≡ true
-        → (h : Hearing) (u : Wire) → SendsBlock (told wire) set w b (Some h) u → Passed h u
+        → (h : Heard) (u : Wire) → SendsBlock (told wire) set w b (Some h) u → Passed h u
     passed_exchange may here all free h u e =
         let pass = next_pass w.air.fates all in
         let heeded : Heeded = wire_heeds w (wave_of_kind set.kind) (sealed (wave_of_kind set.kind) (spelled b)) in
@@ -165,15 +165,15 @@ module _ (set : LinkSetting) (w0 : Wire) (of : OfLink set w0) where
         let took : heeded ≡ answers_by w.party by_image = takes_passed set.kind w b (sent_block b is) shows.kind awake here free pass.0 ∙ takes_is in
         let answer : heeded.answer ≡ maybe_frame set.kind by_list.block =
         ap (λ (x : Heeded). x.answer) took ∙ ap (λ (k : CardKind). maybe_frame k by_image.block) shows.kind ∙ ap (λ (o : Option Block). maybe_frame set.kind o) both.block in
-        let hearing : comes_back (next_fate w.air.fates).up (aired heeded.answer) ≡ h = ap (λ (p : Option Hearing × Wire). unwrap_or p.0 Silence) e in
-        let then : moved w heeded ≡ u = ap (λ (p : Option Hearing × Wire). p.1) e in
+        let hearing : comes_back (next_fate w.air.fates).up (aired heeded.answer) ≡ h = ap (λ (p : Option Heard × Wire). unwrap_or p.0 Silence) e in
+        let then : moved w heeded ≡ u = ap (λ (p : Option Heard × Wire). p.1) e in
         let stays : (later w.air).gone ≡ false =
         ap (λ (gone : Bool). gone_by (gone_by gone (next_fate w.air.fates).down) (next_fate w.air.fates).up) here
-        ∙ ap (λ (leg : Leg). gone_by (gone_by false leg) (next_fate w.air.fates).up) pass.0 ∙ ap (λ (leg : Leg). gone_by false leg) pass.1 in
+        ∙ ap (λ (leg : Way). gone_by (gone_by false leg) (next_fate w.air.fates).up) pass.0 ∙ ap (λ (leg : Way). gone_by false leg) pass.1 in
         record {
           heard =
               ap (heard_block set.kind set.frames.reader) (sym hearing)
-              ∙ ap (λ (leg : Leg). heard_block set.kind set.frames.reader (comes_back leg (aired heeded.answer))) pass.1
+              ∙ ap (λ (leg : Way). heard_block set.kind set.frames.reader (comes_back leg (aired heeded.answer))) pass.1
               ∙ ap (λ (a : Option Framed). heard_block set.kind set.frames.reader (aired a)) answer
               ∙ hears_passed set.kind set.frames.reader by_list.block may;
           later = subst (λ (x : Wire). Shows x by_list.card) then (subst (λ (x : Heeded). Shows (moved w x) by_list.card) (sym took) shows_taken);
@@ -191,7 +191,7 @@ module _ (set : LinkSetting) (w0 : Wire) (of : OfLink set w0) where
     reply_is : IsAnswer (card_answer image0 command).0
     reply_is = answer_is image0 command of.image
 
-    abbrev At : Bool → Place → List Heard → Reader
+    abbrev At : Bool → Place → List ReadBlock → Reader
     At m place s = reader_at set.frames image [] command m place s
 
     -- the records say what the card's list says
@@ -226,19 +226,19 @@ module _ (set : LinkSetting) (w0 : Wire) (of : OfLink set w0) where
         })
 
     -- an exchange from a place
-    may_answer : (m : Bool) (place : Place) (s : List Heard) → Fine set.frames image [] command place → Fits set.frames image [] command m place s
+    may_answer : (m : Bool) (place : Place) (s : List ReadBlock) → Fine set.frames image [] command place → Fits set.frames image [] command m place s
         → MaySend set.frames.reader (card_hears set.frames.reader image (card_at set.frames image [] command m place) (asked (At m place s))).block
     may_answer m place s fine fits =
         let t = taken set.frames image [] command linked legal m place s fine fits in
         subst (λ (a : Answer). MaySend set.frames.reader a.block) (sym t.is)
         (answer_sent set.frames image [] command sized linked reply_is.wtxm_least reply_is.wtxm_most m t.next s t.fine t.answers)
 
-    Rest : List Hearing → Type 0
-    Rest hs = (m : Bool) (place : Place) (s : List Heard) (w : Wire) (turn : Turn) (t : Wire) → Fine set.frames image [] command place
+    Rest : List Heard → Type 0
+    Rest hs = (m : Bool) (place : Place) (s : List ReadBlock) (w : Wire) (turn : Turn) (t : Wire) → Fine set.frames image [] command place
         → Fits set.frames image [] command m place s → count is_bad s ≤ 2 → Shows w (card_at set.frames image [] command m place)
         → Follows (told wire) set hs (At m place s) w turn t → OnceSo w0 command turn t
 
-    then_rest : (hs : List Hearing) → Rest hs → (turn : Turn) (t : Wire) (x : Turn) (card : Card) (u : Wire) → GoodTurn set.frames image [] command x card → Shows u card
+    then_rest : (hs : List Heard) → Rest hs → (turn : Turn) (t : Wire) (x : Turn) (card : Card) (u : Wire) → GoodTurn set.frames image [] command x card → Shows u card
         → GoesOn (λ q v. Follows (told wire) set hs q v turn t) x hs u turn t → OnceSo w0 command turn t
     unfolding Rest
     then_rest hs rest turn t (Asks r) card u g shows on =
@@ -253,7 +253,7 @@ module _ (set : LinkSetting) (w0 : Wire) (of : OfLink set w0) where
         subst (λ (x : Turn). OnceSo w0 command x t) (sym on.1) (subst (λ (v : Wire). OnceSo w0 command (Spends r) v) (sym on.2) ended)
     then_rest hs rest turn t (Breaks r) card u g shows on = absurd g
 
-    all_hearings : (hs : List Hearing) → Rest hs
+    all_hearings : (hs : List Heard) → Rest hs
     unfolding Rest
     all_hearings [] m place s w turn t fine fits le shows follows =
         let now : AtMostOnce w0 command w = at_most w (card_at set.frames image [] command m place) shows (log_at set.frames image [] command m place) in
@@ -264,7 +264,7 @@ module _ (set : LinkSetting) (w0 : Wire) (of : OfLink set w0) where
         let sent : Sent (asked (At m place s)) = asked_sent set.frames image [] command sized linked reply_is.wtxm_least reply_is.wtxm_most m place s fits in
         let x = one_exchange w (card_at set.frames image [] command m place) shows (asked (At m place s)) sent (may_answer m place s fine fits) h follows.0 follows.1 in
         let good = exchange set.frames image [] command sized linked legal m place s fine fits le x.down x.up in
-        let on = subst (λ (k : Heard). GoesOn (λ q v. Follows (told wire) set hs q v turn t) (reader_hears set.frames.reader (At m place s) k) hs follows.0 turn t) x.heard follows.2 in
+        let on = subst (λ (k : ReadBlock). GoesOn (λ q v. Follows (told wire) set hs q v turn t) (reader_hears set.frames.reader (At m place s) k) hs follows.0 turn t) x.heard follows.2 in
         then_rest hs (all_hearings hs) turn t _ _ follows.0 good x.later on
 
     -- ---- where every frame passes
@@ -285,12 +285,12 @@ module _ (set : LinkSetting) (w0 : Wire) (of : OfLink set w0) where
         let free : length w.log < w.room = omega (arith, size, few, two, room) in
         le-leb _ _ free
 
-    Unspent : List Hearing → Type 0
-    Unspent hs = (m : Bool) (place : Place) (s : List Heard) (w : Wire) (turn : Turn) (t : Wire) → Fine set.frames image [] command place
+    Unspent : List Heard → Type 0
+    Unspent hs = (m : Bool) (place : Place) (s : List ReadBlock) (w : Wire) (turn : Turn) (t : Wire) → Fine set.frames image [] command place
         → Fits set.frames image [] command m place s → count is_bad s ≤ 0 → Shows w (card_at set.frames image [] command m place) → w.air.gone ≡ false → AllPass w.air.fates
         → Follows (told wire) set hs (At m place s) w turn t → IsUnspent turn
 
-    then_unspent : (hs : List Hearing) → Unspent hs → (turn : Turn) (t : Wire) (x : Turn) (card : Card) (u : Wire) → GoodTurn set.frames image [] command x card
+    then_unspent : (hs : List Heard) → Unspent hs → (turn : Turn) (t : Wire) (x : Turn) (card : Card) (u : Wire) → GoodTurn set.frames image [] command x card
         → Keeps set.frames image [] command 0 x → Shows u card → u.air.gone ≡ false → AllPass u.air.fates
         → GoesOn (λ q v. Follows (told wire) set hs q v turn t) x hs u turn t → IsUnspent turn
     unfolding Unspent
@@ -303,7 +303,7 @@ module _ (set : LinkSetting) (w0 : Wire) (of : OfLink set w0) where
     then_unspent hs rest turn t (Spends r) card u g none shows here all on = absurd (omega (arith, none))
     then_unspent hs rest turn t (Breaks r) card u g none shows here all on = absurd g
 
-    all_unspent : (hs : List Hearing) → Unspent hs
+    all_unspent : (hs : List Heard) → Unspent hs
     unfolding Unspent
     all_unspent [] m place s w turn t fine fits le shows here all follows = subst (λ (x : Turn). IsUnspent x) (sym follows.0) tt
     all_unspent (h ∷ hs) m place s w turn t fine fits le shows here all follows =
@@ -311,7 +311,7 @@ module _ (set : LinkSetting) (w0 : Wire) (of : OfLink set w0) where
         let x = passed_exchange w (card_at set.frames image [] command m place) shows (asked (At m place s)) sent (may_answer m place s fine fits) here all (has_room w m place shows) h follows.0 follows.1 in
         let good = exchange set.frames image [] command sized linked legal m place s fine fits (omega (arith, le)) true true in
         let none = keeps set.frames image [] command linked legal m place s fine fits (record { down = true; up = true }) 0 (omega (arith, le)) in
-        let on = subst (λ (k : Heard). GoesOn (λ q v. Follows (told wire) set hs q v turn t) (reader_hears set.frames.reader (At m place s) k) hs follows.0 turn t) x.heard follows.2 in
+        let on = subst (λ (k : ReadBlock). GoesOn (λ q v. Follows (told wire) set hs q v turn t) (reader_hears set.frames.reader (At m place s) k) hs follows.0 turn t) x.heard follows.2 in
         then_unspent hs (all_unspent hs) turn t _ _ follows.0 good none x.later x.gone x.fates on
 
 idle_card : (card : Card) → card.taken ≡ [] → card.left ≡ Parts [] → card.log ≡ [] → card ≡ record { number = card.number; last = card.last; taken = []; left = Parts []; log = [] }
@@ -325,7 +325,7 @@ module _ (set : LinkSetting) (w : Wire) (r : Reader) (command : List ℕ) (of : 
   begun_at : begin set.frames.card command r ≡ reader_at set.frames (by_commands w.party.image) [] command w.party.card.number first_place []
   begun_at =
       ap (λ (n : Bool). record { number = n; phase = Sending (cut (set.frames.card - 3) command).first (cut (set.frames.card - 3) command).others; since = r.since }) rest.differ
-      ∙ ap (λ (l : List Heard). record { number = other w.party.card.number; phase = Sending (cut (set.frames.card - 3) command).first (cut (set.frames.card - 3) command).others; since = l }) rest.fresh
+      ∙ ap (λ (l : List ReadBlock). record { number = other w.party.card.number; phase = Sending (cut (set.frames.card - 3) command).first (cut (set.frames.card - 3) command).others; since = l }) rest.fresh
 
   shows_first : Shows set w of w (card_at set.frames (by_commands w.party.image) [] command w.party.card.number first_place)
   shows_first = record {
@@ -339,7 +339,7 @@ module _ (set : LinkSetting) (w : Wire) (r : Reader) (command : List ℕ) (of : 
     unhalted = rest.unhalted;
   }
 
-  from_first : (hs : List Hearing) (turn : Turn) (t : Wire) → Follows (told wire) set hs (begin set.frames.card command r) w turn t
+  from_first : (hs : List Heard) (turn : Turn) (t : Wire) → Follows (told wire) set hs (begin set.frames.card command r) w turn t
       → Follows (told wire) set hs (reader_at set.frames (by_commands w.party.image) [] command w.party.card.number first_place []) w turn t
   from_first hs turn t follows = subst (λ (q : Reader). Follows (told wire) set hs q w turn t) begun_at follows
 
@@ -350,7 +350,7 @@ carried_once_lem set w r command hs turn t of rest legal follows =
     (shows_first set w r command of rest) (from_first set w r command of rest hs turn t follows)
 
 -- where every frame passes, the link isn't spent
-pub unspent_lem : (set : LinkSetting) (w : Wire) (r : Reader) (command : List ℕ) (hs : List Hearing) (turn : Turn) (t : Wire)
+pub unspent_lem : (set : LinkSetting) (w : Wire) (r : Reader) (command : List ℕ) (hs : List Heard) (turn : Turn) (t : Wire)
     → OfLink set w → AtRest r w.party.card → is_command command ≡ true → w.air.gone ≡ false → AllPass w.air.fates
     → Follows (told wire) set hs (begin set.frames.card command r) w turn t → IsUnspent turn
 unfolding Unspent

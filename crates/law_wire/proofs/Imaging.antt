@@ -1,15 +1,15 @@
 -- A card whose image moves on with each command, against one whose list of commands grows.
 use Rattle.std.proofs.Common.{◌≡◌, ℕ, zero, suc, Bool, true, false, List, [], ◌∷◌, ◌++◌, length, Option, Some, None, refl, sym, ap, ◌∙◌, subst, append-nil}
 use Rattle.std.specs.Prelude.{nat_le, ◌-◌, if◌then◌else◌, slice_get, position}
-use Rattle.ep_base.specs.Hearing.{Activated}
-use Rattle.ep_base.specs.Apdu.{same_bytes, is_command, command_data, ppse_name}
-use Rattle.ep_base.specs.Block.{Block, I, RAck, RNak, Deselect, Wtx, other, same}
-use Rattle.ep_base.specs.Parts.{Cut, cut}
-use Rattle.ep_base.specs.CardAnswer.{Answered, App, Image, is_select, by_app, by_place, select_answer, ppse_answer, in_app, other_answer, card_answer}
-use Rattle.ep_base.specs.CardEnd.{Card, Answer, Left, Parts, Waits, is_halted, sends_first, sends_part, sends, again, answers, executes, on_part, on_ack, on_wtx, mute, dropped, card_hears, records, unlogged}
-use Rattle.ep_base.specs.Images.{unasked, answered}
-use Rattle.ep_base.specs.Direct.{image_rules}
-use Rattle.ep_base.specs.Wire.{by_commands, image_after}
+use Rattle.ep_base.specs.Air.Heard.{Activated}
+use Rattle.ep_base.specs.Cards.Apdu.{same_bytes, is_command, command_data, ppse_name}
+use Rattle.ep_base.specs.Link.Block.{Block, I, RAck, RNak, Deselect, Wtx, other, same}
+use Rattle.ep_base.specs.Link.Parts.{Cut, cut}
+use Rattle.ep_base.specs.Cards.CardAnswer.{Answered, App, Image, is_select, by_app, by_place, select_answer, ppse_answer, in_app, other_answer, card_answer}
+use Rattle.ep_base.specs.Link.CardEnd.{Card, Answer, Left, Parts, Waits, is_halted, sends_first, sends_part, sends, again, answers, executes, on_part, on_ack, on_wtx, mute, dropped, card_hears, records, unlogged}
+use Rattle.ep_base.specs.Cards.Images.{unasked, answered}
+use Rattle.ep_base.specs.Cards.Direct.{image_rules}
+use Rattle.ep_base.specs.Link.Wire.{by_commands, image_after}
 use Rattle.law_wire.proofs.Reading.{Sent}
 
 -- ---- images

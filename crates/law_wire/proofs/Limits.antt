@@ -5,11 +5,11 @@ use Rattle.std.specs.List.{All, starts_with}
 use Rattle.std.proofs.lemmas.Bool.Decides.{nat_tests}
 use Rattle.std.proofs.lemmas.Option.{unwrap_or-slice_get, get_or_from_slice_get, slice_get_within, slice_get_past}
 use Rattle.std.proofs.lemmas.List.Elements.{All-set, All-get_or}
-use Rattle.ep_base.specs.Hearing.{Activated}
-use Rattle.ep_base.specs.Apdu.{same_bytes, is_command, command_data, ppse_name, is_9000}
-use Rattle.ep_base.specs.CardAnswer.{Answered, Answers, Rule, App, Image, IsResponse, AreAnswers, IsRule, IsApp, IsImage, IsAnswer, used_once, file_not_found, is_select, app_answer, app_selected, by_app, by_place, select_answer, ppse_answer, rule_used, app_with, by_rule, by_rule_place, app_executes, with_app, in_app, other_answer, card_answer}
-use Rattle.ep_base.specs.Direct.{image_rules}
-use Rattle.ep_base.specs.Images.{Rules, unasked, answered, image_from}
+use Rattle.ep_base.specs.Air.Heard.{Activated}
+use Rattle.ep_base.specs.Cards.Apdu.{same_bytes, is_command, command_data, ppse_name, is_9000}
+use Rattle.ep_base.specs.Cards.CardAnswer.{Answered, Answers, Rule, App, Image, IsResponse, AreAnswers, IsRule, IsApp, IsImage, IsAnswer, used_once, file_not_found, is_select, app_answer, app_selected, by_app, by_place, select_answer, ppse_answer, rule_used, app_with, by_rule, by_rule_place, app_executes, with_app, in_app, other_answer, card_answer}
+use Rattle.ep_base.specs.Cards.Direct.{image_rules}
+use Rattle.ep_base.specs.Cards.Images.{Rules, unasked, answered, image_from}
 use Rattle.law_link.specs.Once as Links
 
 -- rules whose states keep a fact under which every answer fits

@@ -3,15 +3,15 @@ use Rattle.std.proofs.Common.{◌≡◌, ℕ, ◌<◌, ◌≤◌, ◌^◌, ◌&&
 use Rattle.std.specs.Prelude.{nat_lt, nat_le, not}
 use Rattle.ep_base.specs.declared.air.CardKind.{CardKind}
 use Rattle.ep_base.specs.declared.air.CardKind.TheVariants as kinds
-use Rattle.ep_base.specs.Hearing.{Silence, Noise, Frame, same_wave, wave_of_kind}
-use Rattle.ep_base.specs.Frame.{HasCheck, is_good, is_bare, hits, after_burst, sealed, opened, without_check}
-use Rattle.ep_base.specs.Air.{Leg, Passes, Loses, Bursts, Leaves, IsLeg, Passage, ArePassages, AllPass, next_fate, fates_after}
-use Rattle.ep_base.specs.Block.{Block, Deselect, Heard, Bad, Intact, frame_length}
-use Rattle.ep_base.specs.Link.{comes_up}
-use Rattle.ep_base.specs.CardEnd.{is_halted}
-use Rattle.ep_base.specs.Spelling.{Read, spelled, is_block}
-use Rattle.ep_base.specs.LinkFrames.{heard_block, heard_opened, intact}
-use Rattle.ep_base.specs.Wire.{comes_down, comes_back, burst_down, burst_up, Party, Heeded, unmoved, maybe_frame, takes_block, takes_read, takes_opened, takes_frame, takes_down, aired, Wire, heard_down, wire_heeds, moved}
+use Rattle.ep_base.specs.Air.Heard.{Silence, Noise, Frame, same_wave, wave_of_kind}
+use Rattle.ep_base.specs.Air.Frame.{HasCheck, is_good, is_bare, hits, after_burst, sealed, opened, without_check}
+use Rattle.ep_base.specs.Air.Fates.{Way, Passes, Loses, Bursts, Leaves, IsLeg, Fate, ArePassages, AllPass, next_fate, fates_after}
+use Rattle.ep_base.specs.Link.Block.{Block, Deselect, ReadBlock, Bad, Intact, frame_length}
+use Rattle.ep_base.specs.Link.OneLink.{comes_up}
+use Rattle.ep_base.specs.Link.CardEnd.{is_halted}
+use Rattle.ep_base.specs.Link.Spelling.{Read, spelled, is_block}
+use Rattle.ep_base.specs.Link.LinkFrames.{heard_block, heard_opened, intact}
+use Rattle.ep_base.specs.Link.Wire.{comes_down, comes_back, burst_down, burst_up, Party, Heeded, unmoved, maybe_frame, takes_block, takes_read, takes_opened, takes_frame, takes_down, aired, Wire, heard_down, wire_heeds, moved}
 use Rattle.rf_frame.proofs.Opening.{ends_sealed, after_burst-missed}
 use Rattle.rf_frame.proofs.BurstLaw.{burst_law}
 use Rattle.law_wire.specs.Whole.{TakenWhole, HeardWhole, NothingIsBad, ClosesQuietly}
@@ -68,7 +68,7 @@ module _ (kind : CardKind) (b : Block) where
         listens p (same_wave (wave_of_kind kind) (wave_of_kind p.kind) && not (is_halted p.card)) (not hit) (takes_opened p (opened (wave_of_kind kind) bytes))
         (ap (λ (o : Option (List ℕ)). takes_opened p o) e ∙ takes_it hit)
 
-    leg_down : (leg : Leg) → IsLeg leg → (d : Bool) × (takes_down p (wave_of_kind kind) (comes_down leg (wave_of_kind kind) frame) ≡ went d p)
+    leg_down : (leg : Way) → IsLeg leg → (d : Bool) × (takes_down p (wave_of_kind kind) (comes_down leg (wave_of_kind kind) frame) ≡ went d p)
     leg_down Passes l = takes_whole frame false (opened_spelled kind b)
     leg_down Loses l = (false, refl)
     leg_down (Bursts start mask) l =
@@ -104,7 +104,7 @@ module _ (kind : CardKind) (b : Block) where
     heard_hit start mask few false e =
         ap (λ (bytes : List ℕ). heard_block kind fsd (Frame (wave_of_kind kind) bytes)) (after_burst-missed (wave_of_kind kind) start mask frame e) ∙ heard_whole
 
-    leg_up : (leg : Leg) → IsLeg leg → (up : Bool) × (heard_block kind fsd (comes_back leg (Frame (wave_of_kind kind) frame)) ≡ comes_up up (Some b))
+    leg_up : (leg : Way) → IsLeg leg → (up : Bool) × (heard_block kind fsd (comes_back leg (Frame (wave_of_kind kind) frame)) ≡ comes_up up (Some b))
     leg_up Passes l = (true, heard_whole)
     leg_up Loses l = (false, refl)
     leg_up (Bursts start mask) l =
@@ -114,12 +114,12 @@ module _ (kind : CardKind) (b : Block) where
     leg_up Leaves l = (false, refl)
 
 -- where every frame passes, the next one does
-pub next_pass : (fates : List Passage) → AllPass fates → ((next_fate fates).down ≡ Passes) × ((next_fate fates).up ≡ Passes) × AllPass (fates_after fates)
+pub next_pass : (fates : List Fate) → AllPass fates → ((next_fate fates).down ≡ Passes) × ((next_fate fates).up ≡ Passes) × AllPass (fates_after fates)
 next_pass [] all = (refl, refl, tt)
 next_pass (f ∷ fates) all = all
 
 -- the next fate, and those after it
-pub next_legs : (fates : List Passage) → ArePassages fates → IsLeg (next_fate fates).down × IsLeg (next_fate fates).up × ArePassages (fates_after fates)
+pub next_legs : (fates : List Fate) → ArePassages fates → IsLeg (next_fate fates).down × IsLeg (next_fate fates).up × ArePassages (fates_after fates)
 next_legs [] a = (tt, tt, tt)
 next_legs (f ∷ fates) a = a
 
@@ -140,7 +140,7 @@ takes_passed kind w b is same awake here free pass =
     let down : heard_down w (wave_of_kind kind) (sealed (wave_of_kind kind) (spelled b)) ≡ Some (sealed (wave_of_kind kind) (spelled b)) =
     ap (λ (gone : Bool). if not gone && nat_lt (length w.log) w.room then comes_down (next_fate w.air.fates).down wave bytes else None) here
     ∙ ap (λ (c : Bool). if c then comes_down (next_fate w.air.fates).down wave bytes else None) free
-    ∙ ap (λ (leg : Leg). comes_down leg wave bytes) pass in
+    ∙ ap (λ (leg : Way). comes_down leg wave bytes) pass in
     let listens : (same_wave (wave_of_kind kind) (wave_of_kind w.party.kind) && not (is_halted w.party.card)) ≡ true =
     ap (λ (k : CardKind). same_wave wave (wave_of_kind k) && not (is_halted w.party.card)) same
     ∙ ap (λ (c : Bool). c && not (is_halted w.party.card)) (own_wave kind)
@@ -155,14 +155,14 @@ abbrev pub MaySend : ℕ → Option Block → Type 0
 MaySend fsd None = Unit {0}
 MaySend fsd (Some b) = Sent b × (frame_length b ≤ fsd)
 
-pub silent : (kind : CardKind) (fsd : ℕ) (leg : Leg) → heard_block kind fsd (comes_back leg Silence) ≡ Bad
+pub silent : (kind : CardKind) (fsd : ℕ) (leg : Way) → heard_block kind fsd (comes_back leg Silence) ≡ Bad
 silent kind fsd Passes = refl
 silent kind fsd Loses = refl
 silent kind fsd (Bursts start mask) = refl
 silent kind fsd Leaves = refl
 
 -- the reader hears the card's answer, or a bad hearing
-pub up_law : (kind : CardKind) (fsd : ℕ) (o : Option Block) → MaySend fsd o → (leg : Leg) → IsLeg leg
+pub up_law : (kind : CardKind) (fsd : ℕ) (o : Option Block) → MaySend fsd o → (leg : Way) → IsLeg leg
     → (up : Bool) × (heard_block kind fsd (comes_back leg (aired (maybe_frame kind o))) ≡ comes_up up o)
 up_law kind fsd None may leg l = (true, silent kind fsd leg)
 up_law kind fsd (Some b) may leg l = leg_up kind b fsd (sent_block b may.0) may.1 leg l
@@ -183,7 +183,7 @@ taken_whole kind w b is fates =
     let x = down_law kind w b is fates in
     by_went kind b w.party (wire_heeds w (wave_of_kind kind) (sealed (wave_of_kind kind) (spelled b))) x.0 x.1
 
-by_up : (b : Block) (h : Heard) (up : Bool) → h ≡ comes_up up (Some b) → (h ≡ Intact b) ⊎ (h ≡ Bad)
+by_up : (b : Block) (h : ReadBlock) (up : Bool) → h ≡ comes_up up (Some b) → (h ≡ Intact b) ⊎ (h ≡ Bad)
 by_up b h true e = inl e
 by_up b h false e = inr e
 

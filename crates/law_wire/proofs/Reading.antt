@@ -5,11 +5,11 @@ use Rattle.std.proofs.lemmas.Nat.{div-mul-add, mod-mul-add}
 use Rattle.std.proofs.lemmas.Bool.{and_parts}
 use Rattle.ep_base.specs.declared.air.CardKind.{CardKind}
 use Rattle.ep_base.specs.declared.air.CardKind.TheVariants as kinds
-use Rattle.ep_base.specs.Hearing.{wave_of_kind}
-use Rattle.ep_base.specs.Check.{crc_a, crc_b}
-use Rattle.ep_base.specs.Frame.{check_bytes, sealed, opened}
-use Rattle.ep_base.specs.Block.{Block, I, RAck, RNak, Deselect, Wtx, frame_length}
-use Rattle.ep_base.specs.Spelling.{spelled, is_block, announced, Reads, read_block, read_wtx_byte}
+use Rattle.ep_base.specs.Air.Heard.{wave_of_kind}
+use Rattle.ep_base.specs.Air.Check.{crc_a, crc_b}
+use Rattle.ep_base.specs.Air.Frame.{check_bytes, sealed, opened}
+use Rattle.ep_base.specs.Link.Block.{Block, I, RAck, RNak, Deselect, Wtx, frame_length}
+use Rattle.ep_base.specs.Link.Spelling.{spelled, is_block, announced, Reads, read_block, read_wtx_byte}
 use Rattle.rf_frame.proofs.Opening.{opened_sealed}
 
 -- a block that an end of a link sends while a command is open: it has a spelling, no power bits, and isn't S(DESELECT)

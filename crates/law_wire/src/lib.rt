@@ -4,7 +4,7 @@
 //! Frames, bursts, the wire and what a command comes to are defined in `ep_base`; `specs/` states the other laws.
 #![tactic(auto)]
 
-ghost use Rattle.ep_base.specs.Carry.{CarriedOnce};
+ghost use Rattle.ep_base.specs.Link.Carry.{CarriedOnce};
 ghost use Rattle.law_wire.specs.Alike.{CarriedAlike};
 ghost use Rattle.law_wire.specs.Whole.{ClosesQuietly, HeardWhole, NothingIsBad, ReadAsSpelled, TakenWhole};
 

@@ -1,15 +1,15 @@
 -- A command over a medium, hearing by hearing.
 use Rattle.std.proofs.Common.{◌≡◌, ℕ, Bool, true, List, [], ◌∷◌, ◌++◌, Option, Some, None, Result, Ok, Err, refl, sym, ap, ◌∙◌, subst}
-use Rattle.ep_base.specs.Hearing.{Asked, Hearing, wave_of_kind}
-use Rattle.ep_base.specs.Frame.{sealed}
-use Rattle.ep_base.specs.Medium.{MediumSteps}
-use Rattle.ep_base.specs.Apdu.{is_command}
-use Rattle.ep_base.specs.Block.{Block}
-use Rattle.ep_base.specs.ReaderEnd.{Reader, Turn, Asks, Gives, Spends, Breaks, asked, begin}
-use Rattle.ep_base.specs.Spelling.{spelled}
-use Rattle.ep_base.specs.LinkFrames.{LinkSetting, BreachData, block_ask}
-use Rattle.ep_base.specs.Wire.{Wire, wire_send}
-use Rattle.ep_base.specs.Carry.{SendsBlock, turn_on, GoesOn, Follows, AtRest, OfLink, OnceSo, ActsAs}
+use Rattle.ep_base.specs.Air.Heard.{Ask as Asked, Heard, wave_of_kind}
+use Rattle.ep_base.specs.Air.Frame.{sealed}
+use Rattle.ep_base.specs.Air.Medium.{MediumSteps}
+use Rattle.ep_base.specs.Cards.Apdu.{is_command}
+use Rattle.ep_base.specs.Link.Block.{Block}
+use Rattle.ep_base.specs.Link.ReaderEnd.{Reader, Turn, Asks, Gives, Spends, Breaks, asked, begin}
+use Rattle.ep_base.specs.Link.Spelling.{spelled}
+use Rattle.ep_base.specs.Link.LinkFrames.{LinkSetting, BreachData, block_ask}
+use Rattle.ep_base.specs.Link.Wire.{Wire, wire_send}
+use Rattle.ep_base.specs.Link.Carry.{SendsBlock, turn_on, GoesOn, Follows, AtRest, OfLink, OnceSo, ActsAs}
 use Rattle.law_wire.proofs.Alike.{carried_alike_lem}
 use Rattle.block_reader.specs.declared.ends.Next.{Next}
 use Rattle.block_reader.specs.declared.ends.Next.TheVariants.{Ask, Done, Failed}
@@ -33,10 +33,10 @@ module _ {S : Type 0} (steps : MediumSteps S) (set : LinkSetting) where
   ends_here (Breaks r) t = (refl, refl, refl)
 
   -- one hearing more
-  More : (q : Reader) (u : S) (h : Hearing) (t : S) → List Hearing → Type 0
+  More : (q : Reader) (u : S) (h : Heard) (t : S) → List Heard → Type 0
   More q u h t hs = (r : Reader) (s : S) → Follows steps set hs r s (Asks q) u → Follows steps set (hs ++ h ∷ []) r s (turn_on set q h) t
 
-  goes_more : (q : Reader) (u : S) (h : Hearing) (t : S) (hs : List Hearing) → More q u h t hs → (x : Turn) (v : S)
+  goes_more : (q : Reader) (u : S) (h : Heard) (t : S) (hs : List Heard) → More q u h t hs → (x : Turn) (v : S)
       → GoesOn (λ p w. Follows steps set hs p w (Asks q) u) x hs v (Asks q) u
       → GoesOn (λ p w. Follows steps set (hs ++ h ∷ []) p w (turn_on set q h) t) x (hs ++ h ∷ []) v (turn_on set q h) t
   unfolding More
@@ -45,7 +45,7 @@ module _ {S : Type 0} (steps : MediumSteps S) (set : LinkSetting) where
   goes_more q u h t hs again (Spends r) v on = cc (on.1)
   goes_more q u h t hs again (Breaks r) v on = cc (on.1)
 
-  one_more : (q : Reader) (u : S) (h : Hearing) (t : S) → SendsBlock steps set u (asked q) (Some h) t → (hs : List Hearing) → More q u h t hs
+  one_more : (q : Reader) (u : S) (h : Heard) (t : S) → SendsBlock steps set u (asked q) (Some h) t → (hs : List Heard) → More q u h t hs
   unfolding More reader_of
   one_more q u h t sends [] r s follows =
       let same_reader : q ≡ r = ap reader_of follows.0 in
@@ -56,7 +56,7 @@ module _ {S : Type 0} (steps : MediumSteps S) (set : LinkSetting) where
 
   -- a command is open, after some hearings
   pub record Going (r0 : Reader) (s0 : S) (ask : Asked) (e : Held) (u : S) : Type 0 where
-    pub hearings : List Hearing
+    pub hearings : List Heard
     pub reader : Reader
     pub follows : Follows steps set hearings r0 s0 (Asks reader) u
     pub asking : Asking e reader
@@ -66,7 +66,7 @@ module _ {S : Type 0} (steps : MediumSteps S) (set : LinkSetting) where
   begun r0 s0 ask e is asks = record { hearings = []; reader = r0; follows = (refl, refl); asking = is; asks = asks }
 
   -- what was sent is the block that is asked
-  sent : (r0 : Reader) (s0 : S) (ask : Asked) (e : Held) (u : S) (heard : Option Hearing) (t : S) → (g : Going r0 s0 ask e u) → steps.sends u ask.wave ask.bytes ask.wait heard t → SendsBlock steps set u (asked g.reader) heard t
+  sent : (r0 : Reader) (s0 : S) (ask : Asked) (e : Held) (u : S) (heard : Option Heard) (t : S) → (g : Going r0 s0 ask e u) → steps.sends u ask.wave ask.bytes ask.wait heard t → SendsBlock steps set u (asked g.reader) heard t
   sent r0 s0 ask e u heard t g sends = subst (λ (a : Asked). steps.sends u a.wave a.bytes a.wait heard t) g.asks sends
 
   -- the medium failed
@@ -75,14 +75,14 @@ module _ {S : Type 0} (steps : MediumSteps S) (set : LinkSetting) where
 
   -- after one more hearing
   pub record After (r0 : Reader) (s0 : S) (next : Next) (e : Held) (t : S) : Type 0 where
-    pub hearings : List Hearing
-    pub last : Hearing
+    pub hearings : List Heard
+    pub last : Heard
     pub turn : Turn
     pub follows : Follows steps set (hearings ++ last ∷ []) r0 s0 turn t
     pub shows : Shows next e last turn
     pub setting : e.set ≡ set
 
-  pub heard : (r0 : Reader) (s0 : S) (ask : Asked) (e : Held) (u : S) (h : Hearing) (next : Next) (e' : Held) (t : S) → Going r0 s0 ask e u → steps.sends u ask.wave ask.bytes ask.wait (Some h) t → e'.set ≡ set → e.set ≡ set → ((r : Reader) → Asking e r → Shows next e' h (turn_on e.set r h)) → After r0 s0 next e' t
+  pub heard : (r0 : Reader) (s0 : S) (ask : Asked) (e : Held) (u : S) (h : Heard) (next : Next) (e' : Held) (t : S) → Going r0 s0 ask e u → steps.sends u ask.wave ask.bytes ask.wait (Some h) t → e'.set ≡ set → e.set ≡ set → ((r : Reader) → Asking e r → Shows next e' h (turn_on e.set r h)) → After r0 s0 next e' t
   unfolding More
   heard r0 s0 ask e u h next e' t g sends same was rules = record {
     hearings = g.hearings;
@@ -93,7 +93,7 @@ module _ {S : Type 0} (steps : MediumSteps S) (set : LinkSetting) where
     setting = same;
   }
 
-  going_on : (r0 : Reader) (s0 : S) (a : Asked) (e : Held) (t : S) (hs : List Hearing) (h : Hearing) (x : Turn) → Follows steps set (hs ++ h ∷ []) r0 s0 x t → Shows (Ask a) e h x → e.set ≡ set → Going r0 s0 a e t
+  going_on : (r0 : Reader) (s0 : S) (a : Asked) (e : Held) (t : S) (hs : List Heard) (h : Heard) (x : Turn) → Follows steps set (hs ++ h ∷ []) r0 s0 x t → Shows (Ask a) e h x → e.set ≡ set → Going r0 s0 a e t
   going_on r0 s0 a e t hs h (Asks q) follows shows same = record {
     hearings = hs ++ h ∷ [];
     reader = q;
@@ -108,7 +108,7 @@ module _ {S : Type 0} (steps : MediumSteps S) (set : LinkSetting) where
   pub goes_on : (r0 : Reader) (s0 : S) (a : Asked) (e : Held) (t : S) → After r0 s0 (Ask a) e t → Going r0 s0 a e t
   goes_on r0 s0 a e t f = going_on r0 s0 a e t f.hearings f.last f.turn f.follows f.shows f.setting
 
-  done_at : (r0 : Reader) (s0 : S) (response : List ℕ) (e : Held) (t : S) (hs : List Hearing) (h : Hearing) (x : Turn) → Follows steps set (hs ++ h ∷ []) r0 s0 x t → Shows (Done response) e h x → Carried steps set r0 s0 (Ok response) e t
+  done_at : (r0 : Reader) (s0 : S) (response : List ℕ) (e : Held) (t : S) (hs : List Heard) (h : Heard) (x : Turn) → Follows steps set (hs ++ h ∷ []) r0 s0 x t → Shows (Done response) e h x → Carried steps set r0 s0 (Ok response) e t
   done_at r0 s0 response e t hs h (Asks q) follows shows = absurd shows.says
   done_at r0 s0 response e t hs h (Gives given q) follows shows = record {
     hearings = hs ++ h ∷ [];
@@ -122,7 +122,7 @@ module _ {S : Type 0} (steps : MediumSteps S) (set : LinkSetting) where
   pub done : (r0 : Reader) (s0 : S) (response : List ℕ) (e : Held) (t : S) → After r0 s0 (Done response) e t → Carried steps set r0 s0 (Ok response) e t
   done r0 s0 response e t f = done_at r0 s0 response e t f.hearings f.last f.turn f.follows f.shows
 
-  failed_at : (r0 : Reader) (s0 : S) (end : LinkEnd) (e : Held) (t : S) (hs : List Hearing) (h : Hearing) (x : Turn) → Follows steps set (hs ++ h ∷ []) r0 s0 x t → Shows (Failed end) e h x → Carried steps set r0 s0 (Err end) e t
+  failed_at : (r0 : Reader) (s0 : S) (end : LinkEnd) (e : Held) (t : S) (hs : List Heard) (h : Heard) (x : Turn) → Follows steps set (hs ++ h ∷ []) r0 s0 x t → Shows (Failed end) e h x → Carried steps set r0 s0 (Err end) e t
   failed_at r0 s0 (Spent bad) e t hs h (Asks q) follows shows = absurd shows.says
   failed_at r0 s0 (Spent bad) e t hs h (Gives response q) follows shows = absurd shows.says
   failed_at r0 s0 (Spent bad) e t hs h (Spends q) follows shows = record { hearings = hs ++ h ∷ []; reader = q; follows = follows; fails = shows.stands; three = shows.says.0; third = shows.says.1 }
@@ -141,11 +141,11 @@ module _ {S : Type 0} (steps : MediumSteps S) (set : LinkSetting) where
 
   -- over a medium that acts as a wire
   module _ (good : S → Bool) (shown : S → Wire) (s : S) (r : Reader) (command : List ℕ) (acts : ActsAs steps set good shown) (is : good s ≡ true) (of : OfLink set (shown s)) (rest : AtRest r (shown s).party.card) (legal : is_command command ≡ true) where
-    as_wire : (hs : List Hearing) (turn : Turn) (t : S) → Follows steps set hs (begin set.frames.card command r) s turn t → OnceSo (shown s) command turn (shown t) × (good t ≡ true)
+    as_wire : (hs : List Heard) (turn : Turn) (t : S) → Follows steps set hs (begin set.frames.card command r) s turn t → OnceSo (shown s) command turn (shown t) × (good t ≡ true)
     as_wire hs turn t follows = carried_alike_lem steps set good shown s r command hs turn t acts is of rest legal follows
 
     never_fails : (w : Wire) (b : Block) (t : Wire) → wire_send w (wave_of_kind set.kind) (sealed (wave_of_kind set.kind) (spelled b)) ≡ (None, t) → ⊥
-    never_fails w b t e = cc (ap (λ (p : Option Hearing × Wire). p.0) e)
+    never_fails w b t e = cc (ap (λ (p : Option Heard × Wire). p.0) e)
 
     pub once : (result : Result (List ℕ) LinkEnd) (e : Held) (t : S) → Carried steps set (begin set.frames.card command r) s result e t → ByWire result e (shown s) command (shown t) × (good t ≡ true)
     once (Ok response) e t c =

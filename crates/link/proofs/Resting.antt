@@ -1,16 +1,16 @@
 -- A transport's link: the reader of an end that rests, and what a command and a closing leave.
 use Rattle.std.proofs.Common.{◌≡◌, ℕ, Bool, true, List, [], ◌∷◌, ◌++◌, length, Option, Some, None, Ok, Err, refl, sym, ap, ◌∙◌, subst}
-use Rattle.ep_base.specs.Air.{ArePassages}
-use Rattle.ep_base.specs.Block.{Heard, Deselect}
-use Rattle.ep_base.specs.Hearing.{Hearing, wave_of_kind}
-use Rattle.ep_base.specs.Frame.{sealed}
-use Rattle.ep_base.specs.Spelling.{spelled}
-use Rattle.ep_base.specs.Medium.{MediumSteps}
-use Rattle.ep_base.specs.ReaderEnd.{Reader, Phase, Idle, begin}
-use Rattle.ep_base.specs.LinkFrames.{LinkSetting}
-use Rattle.ep_base.specs.Wire.{Wire, wire_send}
-use Rattle.ep_base.specs.Radio.{OpenLink, TransactsOver}
-use Rattle.ep_base.specs.Transport.{Answered}
+use Rattle.ep_base.specs.Air.Fates.{ArePassages}
+use Rattle.ep_base.specs.Link.Block.{ReadBlock, Deselect}
+use Rattle.ep_base.specs.Air.Heard.{Heard, wave_of_kind}
+use Rattle.ep_base.specs.Air.Frame.{sealed}
+use Rattle.ep_base.specs.Link.Spelling.{spelled}
+use Rattle.ep_base.specs.Air.Medium.{MediumSteps}
+use Rattle.ep_base.specs.Link.ReaderEnd.{Reader, Phase, Idle, begin}
+use Rattle.ep_base.specs.Link.LinkFrames.{LinkSetting}
+use Rattle.ep_base.specs.Link.Wire.{Wire, wire_send}
+use Rattle.ep_base.specs.Poll.Radio.{OpenLink, TransactsOver}
+use Rattle.ep_base.specs.Poll.Transport.{Answered}
 use Rattle.law_wire.proofs.Passing.{closes_quietly}
 use Rattle.block_reader.specs.Counts as counts
 use Rattle.block_reader.specs.Progress.{NoneGot, phase_by}
@@ -58,7 +58,7 @@ rests_still e still = record {
   none_kept = no_length e.since still.none_kept;
 }
 
-reader_with : Bool → Phase → List Heard → Reader
+reader_with : Bool → Phase → List ReadBlock → Reader
 reader_with n p s = record { number = n; phase = p; since = s }
 
 -- There is one reader at which an end rests.
@@ -67,7 +67,7 @@ unfolding reader_with
 one_reader e r rests =
     ap (λ (n : Bool). reader_with n Idle []) (sym rests.state.number)
     ∙ ap (λ (p : Phase). reader_with r.number p []) (sym rests.closed)
-    ∙ ap (λ (s : List Heard). reader_with r.number r.phase s) (sym rests.fresh)
+    ∙ ap (λ (s : List ReadBlock). reader_with r.number r.phase s) (sym rests.fresh)
 
 open_with : LinkSetting → Reader → OpenLink
 open_with set r = record { set = set; reader = r }
@@ -150,13 +150,13 @@ over_wire_err Device set link e' w command t by = absurd by
 
 -- A wire never fails.
 pub wire_fails_not : (w : Wire) (set : LinkSetting) (t : Wire) → wire_send w (wave_of_kind set.kind) (sealed (wave_of_kind set.kind) (spelled Deselect)) ≡ (None, t) → ⊥
-wire_fails_not w set t e = cc (ap (λ (p : Option Hearing × Wire). p.0) e)
+wire_fails_not w set t e = cc (ap (λ (p : Option Heard × Wire). p.0) e)
 
 -- Closing over a wire.
-pub closes_wire : (set : LinkSetting) (w : Wire) (heard : Option Hearing) (t : Wire) → ArePassages w.air.fates
+pub closes_wire : (set : LinkSetting) (w : Wire) (heard : Option Heard) (t : Wire) → ArePassages w.air.fates
     → wire_send w (wave_of_kind set.kind) (sealed (wave_of_kind set.kind) (spelled Deselect)) ≡ (heard, t) → ClosesWire set w t
 closes_wire set w heard t fates is =
-    let after : (wire_send w (wave_of_kind set.kind) (sealed (wave_of_kind set.kind) (spelled Deselect))).1 ≡ t = ap (λ (p : Option Hearing × Wire). p.1) is in
+    let after : (wire_send w (wave_of_kind set.kind) (sealed (wave_of_kind set.kind) (spelled Deselect))).1 ≡ t = ap (λ (p : Option Heard × Wire). p.1) is in
     let quiet = closes_quietly set.kind w fates in
     record {
       once = sym after;

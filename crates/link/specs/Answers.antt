@@ -1,7 +1,7 @@
 -- What the answers of a transport stand for in plain data (this project's own).
 use Rattle.std.specs.Prelude.{ℕ, List, Result, Ok, Err}
-use Rattle.ep_base.specs.Transport.{Presentation, Here, Nobody, Gone, Reply, Answered, Breached, Lost}
-use Rattle.ep_base.specs.Transport as plain
+use Rattle.ep_base.specs.Poll.Transport.{Presentation, Here, Nobody, Gone, Reply, Answered, Breached, Lost}
+use Rattle.ep_base.specs.Poll.Transport as plain
 use Rattle.link.specs.declared.transport.Presented.{Presented}
 use Rattle.link.specs.declared.transport.PresentEnd.{PresentEnd}
 use Rattle.link.specs.declared.transport.PresentEnd.TheVariants.{NoCard}

@@ -1,27 +1,27 @@
 -- What a command comes to that a reader's end carries over a medium (this project's own).
 use Rattle.std.specs.Prelude.{◌≡◌, ℕ, List, [], ◌∷◌, ◌++◌, None, Result, Ok, Err}
-use Rattle.ep_base.specs.Hearing.{Hearing}
-use Rattle.ep_base.specs.Block.{is_bad, count}
-use Rattle.ep_base.specs.Medium.{MediumSteps}
-use Rattle.ep_base.specs.ReaderEnd.{Reader, Asks, Gives, Spends, Breaks, asked}
-use Rattle.ep_base.specs.LinkFrames.{LinkSetting, breach_of}
-use Rattle.ep_base.specs.Carry.{SendsBlock, Follows, AtRest, AtMostOnce, Executed}
-use Rattle.ep_base.specs.CardAnswer.{card_answer}
-use Rattle.ep_base.specs.Wire.{Wire}
+use Rattle.ep_base.specs.Air.Heard.{Heard}
+use Rattle.ep_base.specs.Link.Block.{is_bad, count}
+use Rattle.ep_base.specs.Air.Medium.{MediumSteps}
+use Rattle.ep_base.specs.Link.ReaderEnd.{Reader, Asks, Gives, Spends, Breaks, asked}
+use Rattle.ep_base.specs.Link.LinkFrames.{LinkSetting, breach_of}
+use Rattle.ep_base.specs.Link.Carry.{SendsBlock, Follows, AtRest, AtMostOnce, Executed}
+use Rattle.ep_base.specs.Cards.CardAnswer.{card_answer}
+use Rattle.ep_base.specs.Link.Wire.{Wire}
 use Rattle.block_reader.specs.Stands.{Held, Rests, Asking, Fails}
 use Rattle.block_reader.specs.declared.ends.LinkEnd.{LinkEnd}
 use Rattle.block_reader.specs.declared.ends.LinkEnd.TheVariants.{Spent, Breach, Device}
 
 -- The hearings gave the response, and the end rests.
 pub record Answers {S : Type 0} (steps : MediumSteps S) (set : LinkSetting) (r : Reader) (s : S) (response : List ℕ) (e : Held) (t : S) : Type 0 where
-  pub hearings : List Hearing
+  pub hearings : List Heard
   pub reader : Reader
   pub follows : Follows steps set hearings r s (Gives response reader) t
   pub rests : Rests e reader
 
 -- The last of the hearings was the third bad one since the toggle.
 pub record RunsOut {S : Type 0} (steps : MediumSteps S) (set : LinkSetting) (r : Reader) (s : S) (bad : ℕ) (e : Held) (t : S) : Type 0 where
-  pub hearings : List Hearing
+  pub hearings : List Heard
   pub reader : Reader
   pub follows : Follows steps set hearings r s (Spends reader) t
   pub fails : Fails e reader
@@ -30,8 +30,8 @@ pub record RunsOut {S : Type 0} (steps : MediumSteps S) (set : LinkSetting) (r :
 
 -- The last of the hearings was outside the rules.
 pub record IsBroken {S : Type 0} (steps : MediumSteps S) (set : LinkSetting) (r : Reader) (s : S) (end : LinkEnd) (e : Held) (t : S) : Type 0 where
-  pub hearings : List Hearing
-  pub last : Hearing
+  pub hearings : List Heard
+  pub last : Heard
   pub reader : Reader
   pub follows : Follows steps set (hearings ++ last ∷ []) r s (Breaks reader) t
   pub fails : Fails e reader
@@ -39,7 +39,7 @@ pub record IsBroken {S : Type 0} (steps : MediumSteps S) (set : LinkSetting) (r 
 
 -- After the hearings the medium failed.
 pub record IsLost {S : Type 0} (steps : MediumSteps S) (set : LinkSetting) (r : Reader) (s : S) (e : Held) (t : S) : Type 0 where
-  pub hearings : List Hearing
+  pub hearings : List Heard
   pub reader : Reader
   pub between : S
   pub follows : Follows steps set hearings r s (Asks reader) between

@@ -1,6 +1,6 @@
 -- What a direct transport shows in plain data (this project's own).
 use Rattle.std.specs.Prelude.{ℕ, Bool}
-use Rattle.ep_base.specs.Direct as plain
+use Rattle.ep_base.specs.Cards.Direct as plain
 use Rattle.link.specs.declared.direct.Direct.{Direct}
 
 abbrev pub direct_of : Direct → plain.Direct

@@ -1,15 +1,15 @@
 -- What a transport over a medium shows in plain data, and what it comes to over a wire (this project's own).
 use Rattle.std.specs.Prelude.{◌≡◌, ℕ, true, List, [], Option, Some, None, Result, Ok, Err, length}
-use Rattle.ep_base.specs.Block.{Deselect}
-use Rattle.ep_base.specs.Hearing.{wave_of_kind}
-use Rattle.ep_base.specs.Frame.{sealed}
-use Rattle.ep_base.specs.Spelling.{spelled}
-use Rattle.ep_base.specs.ReaderEnd.{Reader, Idle}
-use Rattle.ep_base.specs.LinkFrames.{LinkSetting}
-use Rattle.ep_base.specs.Carry.{AtRest, AtMostOnce, Executed}
-use Rattle.ep_base.specs.CardAnswer.{card_answer}
-use Rattle.ep_base.specs.Radio.{OpenLink, Radio}
-use Rattle.ep_base.specs.Wire.{Wire, wire_send}
+use Rattle.ep_base.specs.Link.Block.{Deselect}
+use Rattle.ep_base.specs.Air.Heard.{wave_of_kind}
+use Rattle.ep_base.specs.Air.Frame.{sealed}
+use Rattle.ep_base.specs.Link.Spelling.{spelled}
+use Rattle.ep_base.specs.Link.ReaderEnd.{Reader, Idle}
+use Rattle.ep_base.specs.Link.LinkFrames.{LinkSetting}
+use Rattle.ep_base.specs.Link.Carry.{AtRest, AtMostOnce, Executed}
+use Rattle.ep_base.specs.Cards.CardAnswer.{card_answer}
+use Rattle.ep_base.specs.Poll.Radio.{OpenLink, Radio}
+use Rattle.ep_base.specs.Link.Wire.{Wire, wire_send}
 use Rattle.block_reader.specs.Stands.{Held, held, is_resting}
 use Rattle.block_reader.specs.declared.reader_end.ReaderEnd.{ReaderEnd}
 use Rattle.block_reader.specs.declared.ends.LinkEnd.{LinkEnd}

@@ -1,9 +1,9 @@
 //! One command over an open link: what the reader's end asks is sent over a medium until the command ends.
 ghost use Rattle.std.specs.Prelude.{◌≡◌, true, is_ok, Bool, IsErrOf};
-ghost use Rattle.ep_base.specs.Causes.{HasCause};
-ghost use Rattle.ep_base.specs.ReaderEnd.{Reader, begin};
-ghost use Rattle.ep_base.specs.Carry.{ActsAs, AtRest, OfLink};
-ghost use Rattle.ep_base.specs.Wire.{Wire};
+ghost use Rattle.ep_base.specs.Streams.Causes.{HasCause};
+ghost use Rattle.ep_base.specs.Link.ReaderEnd.{Reader, begin};
+ghost use Rattle.ep_base.specs.Link.Carry.{ActsAs, AtRest, OfLink};
+ghost use Rattle.ep_base.specs.Link.Wire.{Wire};
 ghost use Rattle.block_reader.specs.Stands.{held, is_resting, Rests};
 ghost use Rattle.link.specs.Carried.{ByWire, Carried};
 

@@ -1,7 +1,7 @@
 //! The perfect channel: one card that hears each command and is heard.
 ghost use Rattle.std.specs.Prelude.{◌≡◌, ◌+◌, ◌-◌, ◌^◌, ◌≤◌, ◌↔◌, min, true, false, is_ok, length, IsOk, IsErr, IsErrOf, IfErr, if◌then◌else◌};
-ghost use Rattle.ep_base.specs.Causes.{HasCause};
-ghost use Rattle.ep_base.specs.Direct.{direct};
+ghost use Rattle.ep_base.specs.Streams.Causes.{HasCause};
+ghost use Rattle.ep_base.specs.Cards.Direct.{direct};
 ghost use Rattle.link.specs.Answers.{presentation_of, reply_of};
 
 use crate::{LinkEnd, PresentEnd, Presented, Transport};
@@ -21,7 +21,7 @@ pub struct Direct {
 }
 
 impl Direct {
-    ghost use Rattle.ep_base.specs.CardAnswer.{IsImage};
+    ghost use Rattle.ep_base.specs.Cards.CardAnswer.{IsImage};
     ghost use Rattle.link.specs.Direct.{direct_of, is_presented, faults_of};
 
     /// The channel to this card, whose image answers and whose commands go to the log. The card isn't presented yet.
@@ -57,7 +57,7 @@ impl Direct {
 }
 
 impl Transport for Direct {
-    ghost use Rattle.ep_base.specs.Direct.{Direct as Channel, direct};
+    ghost use Rattle.ep_base.specs.Cards.Direct.{Direct as Channel, direct};
     ghost use Rattle.link.specs.Direct.{direct_of, is_presented, faults_of};
 
     ghost State = { Channel };

@@ -2,11 +2,11 @@
 ghost use Rattle.std.specs.Prelude.{◌≡◌, ◌<◌, Bool, true, false, is_ok, is_some, None, Some, IsOk, IsErr, IsErrOf};
 ghost use Rattle.std.specs.Option.{ForSome};
 ghost use Rattle.block_reader.specs.Stands.{held};
-ghost use Rattle.ep_base.specs.Air.{ArePassages};
-ghost use Rattle.ep_base.specs.Carry.{ActsAs, AtRest, OfLink};
-ghost use Rattle.ep_base.specs.Causes.{HasCause};
-ghost use Rattle.ep_base.specs.Radio.{ClosesOver, OpenLink, Radio, RadioPresents, TransactsOver, has_collision, radio};
-ghost use Rattle.ep_base.specs.Wire.{Wire};
+ghost use Rattle.ep_base.specs.Air.Fates.{ArePassages};
+ghost use Rattle.ep_base.specs.Link.Carry.{ActsAs, AtRest, OfLink};
+ghost use Rattle.ep_base.specs.Streams.Causes.{HasCause};
+ghost use Rattle.ep_base.specs.Poll.Radio.{ClosesOver, OpenLink, Radio, RadioPresents, TransactsOver, has_collision, radio};
+ghost use Rattle.ep_base.specs.Link.Wire.{Wire};
 ghost use Rattle.poll_activate.specs.Meaning.{ends_of};
 ghost use Rattle.link.specs.Answers.{presentation_of, reply_of};
 ghost use Rattle.link.specs.Heard.{AsHeard};

@@ -44,7 +44,7 @@ fn heard(answer: Answer) -> Heard {
 
 impl Medium for Scripted {
     ghost use Rattle.std.specs.Prelude.{ℕ};
-    ghost use Rattle.ep_base.specs.Medium.{untold};
+    ghost use Rattle.ep_base.specs.Air.Medium.{untold};
 
     ghost State = { Unit {0} };
 

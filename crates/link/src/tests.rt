@@ -87,7 +87,7 @@ struct Untold {
 
 impl Medium for Untold {
     ghost use Rattle.std.specs.Prelude.{ℕ};
-    ghost use Rattle.ep_base.specs.Medium.{untold};
+    ghost use Rattle.ep_base.specs.Air.Medium.{untold};
 
     ghost State = { Unit {0} };
 

@@ -1,7 +1,7 @@
 //! Transports.
 ghost use Rattle.std.specs.Prelude.{◌≡◌, ℕ, Bool, true, false, is_ok, IsErr, IsErrOf};
-ghost use Rattle.ep_base.specs.Causes.{HasCause};
-ghost use Rattle.ep_base.specs.Transport.{TransportSteps};
+ghost use Rattle.ep_base.specs.Streams.Causes.{HasCause};
+ghost use Rattle.ep_base.specs.Poll.Transport.{TransportSteps};
 
 use crate::LinkEnd;
 use apdu::{Command, Response};

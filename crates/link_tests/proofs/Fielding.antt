@@ -2,24 +2,24 @@
 use Rattle.std.proofs.Common.{◌≡◌, ◌⊎◌, ℕ, zero, suc, ◌+◌, ◌≤◌, ◌&&◌, Bool, true, false, is_some, IfOk, List, [], ◌∷◌, ◌++◌, length, Option, Some, None, Result, Ok, Err, refl, sym, ap, ◌∙◌, subst}
 use Rattle.std.proofs.lemmas.Bool.{and_parts}
 use Rattle.ep_base.specs.declared.air.CardKind.{CardKind}
-use Rattle.ep_base.specs.Block.{Block, Deselect}
-use Rattle.ep_base.specs.CardEnd.{fresh_card}
-use Rattle.ep_base.specs.CardAnswer.{IsImage}
-use Rattle.ep_base.specs.CardEnd.{Card, is_halted}
-use Rattle.ep_base.specs.Carry.{SendsBlock, Follows, OfLink, AtRest}
-use Rattle.ep_base.specs.Dialogue as dialogue
-use Rattle.ep_base.specs.Field.{Placed, Field, field, field_send}
-use Rattle.ep_base.specs.Frame.{sealed}
-use Rattle.ep_base.specs.Hearing.{Activated, Found, Hearing, wave_of_kind}
-use Rattle.ep_base.specs.LinkFrames.{LinkSetting}
-use Rattle.ep_base.specs.Medium.{told}
-use Rattle.ep_base.specs.Polling.{PlaysRound, Polled, Came, NoCard, Device}
-use Rattle.ep_base.specs.Radio.{ClosesOver, LinkTransacts, OpenLink, Polls, Radio, RadioPresents, TransactsOver, link_to}
-use Rattle.ep_base.specs.ReaderEnd.{Reader, Turn, Asks, Gives, Spends, Breaks, asked, begin}
-use Rattle.ep_base.specs.Spelling.{spelled}
-use Rattle.ep_base.specs.Transport.{Presentation, Here, Nobody, Gone, Reply, Answered, Breached, Lost}
-use Rattle.ep_base.specs.Transport as plain
-use Rattle.ep_base.specs.Wire.{Party}
+use Rattle.ep_base.specs.Link.Block.{Block, Deselect}
+use Rattle.ep_base.specs.Link.CardEnd.{fresh_card}
+use Rattle.ep_base.specs.Cards.CardAnswer.{IsImage}
+use Rattle.ep_base.specs.Link.CardEnd.{Card, is_halted}
+use Rattle.ep_base.specs.Link.Carry.{SendsBlock, Follows, OfLink, AtRest}
+use Rattle.ep_base.specs.Link.Dialogue as dialogue
+use Rattle.ep_base.specs.Cards.Field.{Placed, Field, field, field_send}
+use Rattle.ep_base.specs.Air.Frame.{sealed}
+use Rattle.ep_base.specs.Air.Heard.{Activated, Found, Heard, wave_of_kind}
+use Rattle.ep_base.specs.Link.LinkFrames.{LinkSetting}
+use Rattle.ep_base.specs.Air.Medium.{told}
+use Rattle.ep_base.specs.Poll.Polling.{PlaysRound, Polled, Came, NoCard, Device}
+use Rattle.ep_base.specs.Poll.Radio.{ClosesOver, LinkTransacts, OpenLink, Polls, Radio, RadioPresents, TransactsOver, link_to}
+use Rattle.ep_base.specs.Link.ReaderEnd.{Reader, Turn, Asks, Gives, Spends, Breaks, asked, begin}
+use Rattle.ep_base.specs.Link.Spelling.{spelled}
+use Rattle.ep_base.specs.Poll.Transport.{Presentation, Here, Nobody, Gone, Reply, Answered, Breached, Lost}
+use Rattle.ep_base.specs.Poll.Transport as plain
+use Rattle.ep_base.specs.Link.Wire.{Party}
 use Rattle.block_reader.specs.Stands.{held}
 use Rattle.block_reader.specs.declared.reader_end.ReaderEnd.{ReaderEnd}
 use Rattle.link.specs.Answers.{presentation_of}
@@ -28,7 +28,7 @@ use Rattle.link.specs.declared.transport.PresentEnd.{PresentEnd}
 use Rattle.link.specs.declared.transport.PresentEnd.TheVariants as present
 use Rattle.law_round.specs.Acting.{is_link, linked_at, are_passages, is_open, party_at, shown, without}
 use Rattle.law_round.specs.Inside.{is_out, all_out}
-use Rattle.law_round.specs.Lawful.{ArePlaced, IsPlaced, Lawful, faces, names}
+use Rattle.ep_base.specs.Cards.Lawful.{ArePlaced, IsPlaced, Lawful, faces, names}
 use Rattle.law_round.specs.Linked.{HasLink}
 use Rattle.law_round.specs.Polled.{SameCards}
 use Rattle.law_round.proofs.Acting.{Place, Link, from_link, passages_truth}
@@ -178,12 +178,12 @@ pub record Leaves (n : ℕ) (f t : Field) : Type 0 where
   pub lawful : Lawful t
   pub stay : OthersStay n f t
 
-same_room : (set : LinkSetting) (s t : Field) (b : Block) (heard : Option Hearing) → SendsBlock (told field) set s b heard t → t.room ≡ s.room
+same_room : (set : LinkSetting) (s t : Field) (b : Block) (heard : Option Heard) → SendsBlock (told field) set s b heard t → t.room ≡ s.room
 same_room set s t b heard sends =
     let e : field_send s (wave_of_kind set.kind) (sealed (wave_of_kind set.kind) (spelled b)) ≡ (heard, t) = sends in
-    sym (ap (λ (x : Option Hearing × Field). x.1.room) e)
+    sym (ap (λ (x : Option Heard × Field). x.1.room) e)
 
-leaves : (l : OpenLink) (n : ℕ) (f : Field) (r : Reader) (hs : List Hearing) (turn : Turn) (t : Field) → is_open l.set.kind n f ≡ true → Lawful f → Follows (told field) l.set hs r f turn t → Leaves n f t
+leaves : (l : OpenLink) (n : ℕ) (f : Field) (r : Reader) (hs : List Heard) (turn : Turn) (t : Field) → is_open l.set.kind n f ≡ true → Lawful f → Follows (told field) l.set hs r f turn t → Leaves n f t
 leaves l n f r hs turn t is lawful x =
     let y = leaves_others_law l.set n f t r hs turn is lawful x in
     let room : t.room ≡ f.room = along l.set n (λ u. u.room ≡ f.room) (λ u v b heard g sends p. same_room l.set u v b heard sends ∙ p) hs r f turn t is refl x in
@@ -192,7 +192,7 @@ leaves l n f r hs turn t is lawful x =
 never_none : (set : LinkSetting) (s t : Field) (b : Block) → SendsBlock (told field) set s b None t → ⊥
 never_none set s t b sends =
     let e : field_send s (wave_of_kind set.kind) (sealed (wave_of_kind set.kind) (spelled b)) ≡ (None, t) = sends in
-    cc (ap (λ (x : Option Hearing × Field). x.0) e)
+    cc (ap (λ (x : Option Heard × Field). x.0) e)
 
 pub heard_leaves : (l : OpenLink) (n : ℕ) (f : Field) (command : List ℕ) (result : Result (List ℕ) LinkEnd) (link : Option OpenLink) (t : Field) → is_open l.set.kind n f ≡ true → Lawful f
     → AsHeard (told field) l command f result link t → Leaves n f t
@@ -260,7 +260,7 @@ pub record IsClosed (l : OpenLink) (s t : Radio Field) : Type 0 where
 by_end : (l : OpenLink) (s t : Radio Field) (well : Bool) → ClosesOver (told field) (Some l) s well t → IsClosed l s t
 by_end l s t true x =
     let e : field_send s.medium (wave_of_kind l.set.kind) (sealed (wave_of_kind l.set.kind) (spelled Deselect)) ≡ (Some x.0, t.medium) = x.1 in
-    record { medium = sym (ap (λ (y : Option Hearing × Field). y.1) e); link = x.2.links; reader = x.2.same }
+    record { medium = sym (ap (λ (y : Option Heard × Field). y.1) e); link = x.2.links; reader = x.2.same }
 by_end l s t false x = absurd (never_none l.set s.medium t.medium Deselect x.0)
 
 pub closes : (link : Option OpenLink) (l : OpenLink) (s t : Radio Field) (well : Bool) → link ≡ Some l → ClosesOver (told field) link s well t → IsClosed l s t

@@ -2,13 +2,13 @@
 use Rattle.std.proofs.Common.{◌≡◌, ◌≤◌, ◌+◌, ℕ, zero, suc, All, true, List, [], ◌∷◌, ◌++◌, length, replicate, refl, sym, subst, ◌∙◌}
 use Rattle.std.proofs.lemmas.List.Elements.{All-nil, All-cons, All-append, All-head, All-tail}
 use Rattle.ep_base.specs.declared.air.CardKind.{CardKind}
-use Rattle.ep_base.specs.Medium.{told}
-use Rattle.ep_base.specs.Dialogue.{opened}
-use Rattle.ep_base.specs.CardAnswer.{Image, IsImage}
-use Rattle.ep_base.specs.Air.{Passage, ArePassages}
-use Rattle.ep_base.specs.LinkFrames.{LinkSetting}
-use Rattle.ep_base.specs.Wire.{Wire, wire, new_wire}
-use Rattle.ep_base.specs.Carry.{ActsAs, OfLink, Executed}
+use Rattle.ep_base.specs.Air.Medium.{told}
+use Rattle.ep_base.specs.Link.Dialogue.{opened}
+use Rattle.ep_base.specs.Cards.CardAnswer.{Image, IsImage}
+use Rattle.ep_base.specs.Air.Fates.{Fate, ArePassages}
+use Rattle.ep_base.specs.Link.LinkFrames.{LinkSetting}
+use Rattle.ep_base.specs.Link.Wire.{Wire, wire, new_wire}
+use Rattle.ep_base.specs.Link.Carry.{ActsAs, OfLink, Executed}
 use Rattle.block_reader.specs.Stands.{Held, Rests}
 use Rattle.card_image.proofs.Kept.{card_answer_keeps}
 use Rattle.link.specs.Carried.{Agrees}
@@ -17,7 +17,7 @@ use Rattle.rf_field.specs.declared.fates.FateRun.TheVariants.{Clean, One}
 use Rattle.rf_field.specs.Meaning.{IsRun, clean_passage, run_of, passages}
 use Rattle.link_tests.specs.Open.{IsReady}
 
-passages_append : (xs ys : List Passage) → ArePassages xs → ArePassages ys → ArePassages (xs ++ ys)
+passages_append : (xs ys : List Fate) → ArePassages xs → ArePassages ys → ArePassages (xs ++ ys)
 passages_append [] ys a b = b
 passages_append (x ∷ xs) ys a b = (a.0, a.1, passages_append xs ys a.2 b)
 
@@ -41,7 +41,7 @@ with_run runs now run is all one = subst (λ (l : List FateRun). All IsRun l) (s
 pub acts : (set : LinkSetting) → ActsAs (told wire) set (λ w. true) (λ w. w)
 acts set s b heard t good sent = (sent, refl)
 
-pub just_opened : (e : Held) (w : Wire) (kind : CardKind) (fsd : ℕ) (image : Image) (fates : List Passage) (room : ℕ) →
+pub just_opened : (e : Held) (w : Wire) (kind : CardKind) (fsd : ℕ) (image : Image) (fates : List Fate) (room : ℕ) →
     w ≡ new_wire kind fsd image fates room → e.set.kind ≡ kind → e.set.frames.reader ≡ fsd → 16 ≤ e.set.frames.card → 16 ≤ e.set.frames.reader →
     e.set.frames.reader ≤ 256 → IsImage image → ArePassages fates → 2 ≤ room → Rests e opened → IsReady e w
 just_opened e w kind fsd image fates room is k f card least most im fs ro rests =

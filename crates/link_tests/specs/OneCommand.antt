@@ -1,17 +1,17 @@
 -- A reader at a field of a document's cards: which card has its open link, and what a command and a closing come to (this project's own).
 use Rattle.std.specs.Prelude.{◌≡◌, ◌⊎◌, ℕ, ◌≤◌, true, false, List, [], ◌∷◌, ◌++◌, length, Option, Some, None, Result, Ok, Err}
-use Rattle.ep_base.specs.Block.{Deselect}
-use Rattle.ep_base.specs.CardAnswer.{card_answer}
-use Rattle.ep_base.specs.Carry.{AtRest}
-use Rattle.ep_base.specs.Field as plain
-use Rattle.ep_base.specs.Frame.{sealed}
-use Rattle.ep_base.specs.Hearing.{Activated, wave_of_kind}
-use Rattle.ep_base.specs.LinkFrames.{LinkSetting}
-use Rattle.ep_base.specs.Radio.{OpenLink, Radio, link_to}
-use Rattle.ep_base.specs.ReaderEnd.{Reader}
-use Rattle.ep_base.specs.Spelling.{spelled}
+use Rattle.ep_base.specs.Link.Block.{Deselect}
+use Rattle.ep_base.specs.Cards.CardAnswer.{card_answer}
+use Rattle.ep_base.specs.Link.Carry.{AtRest}
+use Rattle.ep_base.specs.Cards.Field as plain
+use Rattle.ep_base.specs.Air.Frame.{sealed}
+use Rattle.ep_base.specs.Air.Heard.{Activated, wave_of_kind}
+use Rattle.ep_base.specs.Link.LinkFrames.{LinkSetting}
+use Rattle.ep_base.specs.Poll.Radio.{OpenLink, Radio, link_to}
+use Rattle.ep_base.specs.Link.ReaderEnd.{Reader}
+use Rattle.ep_base.specs.Link.Spelling.{spelled}
 use Rattle.law_round.specs.Acting.{is_open, party_at, without}
-use Rattle.law_round.specs.Lawful.{Lawful, faces, names}
+use Rattle.ep_base.specs.Cards.Lawful.{Lawful, faces, names}
 use Rattle.law_round.specs.Linked.{HasLink}
 use Rattle.block_reader.specs.declared.ends.LinkEnd.{LinkEnd}
 use Rattle.block_reader.specs.declared.ends.LinkEnd.TheVariants.{Spent, Breach, Device}

@@ -1,7 +1,7 @@
 -- An open link with both of its ends (this project's own).
-use Rattle.ep_base.specs.Carry.{AtRest, OfLink}
-use Rattle.ep_base.specs.ReaderEnd.{Reader}
-use Rattle.ep_base.specs.Wire.{Wire}
+use Rattle.ep_base.specs.Link.Carry.{AtRest, OfLink}
+use Rattle.ep_base.specs.Link.ReaderEnd.{Reader}
+use Rattle.ep_base.specs.Link.Wire.{Wire}
 use Rattle.block_reader.specs.Stands.{Held, Rests}
 use Rattle.block_reader.specs.Stands as ends
 use Rattle.rf_field.specs.Wires.{wire_of}

@@ -1,7 +1,7 @@
 -- What a reader at a field shows in plain data (this project's own).
 use Rattle.std.specs.Prelude.{Bool, is_some}
-use Rattle.ep_base.specs.Field as plain
-use Rattle.ep_base.specs.Radio.{Radio}
+use Rattle.ep_base.specs.Cards.Field as plain
+use Rattle.ep_base.specs.Poll.Radio.{Radio}
 use Rattle.link_tests.specs.OneCommand.{radio_of}
 use Rattle.link_tests.specs.declared.field_reader.FieldReader.{FieldReader}
 

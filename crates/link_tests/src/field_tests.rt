@@ -1,6 +1,6 @@
 //! A reader at a field, by hand: the longest command in the smallest frames, with lost frames.
 ghost use Rattle.std.specs.Prelude.{All, IfOk};
-ghost use Rattle.law_round.specs.Lawful.{Lawful};
+ghost use Rattle.ep_base.specs.Cards.Lawful.{Lawful};
 ghost use Rattle.rf_field.specs.Fields.{field_of};
 ghost use Rattle.rf_field.specs.Meaning.{IsRun};
 
@@ -33,7 +33,7 @@ fn length_of(heard: &Heard) -> usize {
 }
 
 impl Medium for Listener {
-    ghost use Rattle.ep_base.specs.Medium.{untold};
+    ghost use Rattle.ep_base.specs.Air.Medium.{untold};
 
     ghost State = { Unit {0} };
 

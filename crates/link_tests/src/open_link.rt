@@ -1,8 +1,8 @@
 //! A link with both of its ends.
 ghost use Rattle.std.specs.Prelude.{◌≡◌, ◌<◌, ◌≤◌, ◌+◌, All, IfOk, length};
 ghost use Rattle.link.specs.Carried.{ByWire};
-ghost use Rattle.ep_base.specs.FrameSize as sizes;
-ghost use Rattle.ep_base.specs.Wire.{new_wire};
+ghost use Rattle.ep_base.specs.Air.FrameSize as sizes;
+ghost use Rattle.ep_base.specs.Link.Wire.{new_wire};
 ghost use Rattle.rf_field.specs.Meaning.{IsRun, passages};
 ghost use Rattle.link_tests.specs.Open.{end_of, far_end, IsReady};
 

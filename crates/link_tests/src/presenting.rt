@@ -1,9 +1,9 @@
 //! Presentations, commands and closings at a field, whatever becomes of the frames.
 ghost use Rattle.std.specs.Prelude.{◌≡◌, ◌<◌, ◌≤◌, ◌+◌, ℕ, Some, None, true, is_ok, IsOk, IfOk, IsErrOf, length};
-ghost use Rattle.ep_base.specs.Field as plain;
-ghost use Rattle.ep_base.specs.Medium.{told};
-ghost use Rattle.ep_base.specs.Radio.{OpenLink, RadioPresents, link_to};
-ghost use Rattle.law_round.specs.Lawful.{Lawful};
+ghost use Rattle.ep_base.specs.Cards.Field as plain;
+ghost use Rattle.ep_base.specs.Air.Medium.{told};
+ghost use Rattle.ep_base.specs.Poll.Radio.{OpenLink, RadioPresents, link_to};
+ghost use Rattle.ep_base.specs.Cards.Lawful.{Lawful};
 ghost use Rattle.law_round.specs.Polled.{SameCards};
 ghost use Rattle.link.specs.Answers.{presentation_of};
 ghost use Rattle.rf_field.specs.Fields.{field_of};

@@ -1,6 +1,6 @@
 //! Whole links with lost frames, by hand.
 ghost use Rattle.std.specs.Prelude.{◌≡◌, ◌≤◌, All, IfOk, length, true};
-ghost use Rattle.ep_base.specs.CardAnswer.{AreAnswers, IsApp, IsRule, unused};
+ghost use Rattle.ep_base.specs.Cards.CardAnswer.{AreAnswers, IsApp, IsRule, unused};
 ghost use Rattle.block_reader.specs.Stands.{held, is_resting};
 ghost use Rattle.rf_field.specs.Meaning.{IsRun};
 
@@ -61,7 +61,7 @@ struct Recorder {
 }
 
 impl Medium for Recorder {
-    ghost use Rattle.ep_base.specs.Medium.{untold};
+    ghost use Rattle.ep_base.specs.Air.Medium.{untold};
 
     ghost State = { Unit {0} };
 

@@ -3,16 +3,16 @@ use Rattle.std.specs.Prelude.{◌≡◌, ℕ, ◌+◌, List, [], ◌∷◌, leng
 use Rattle.std.specs.List.{flat_map, last_or}
 use Rattle.ep_base.specs.declared.outcome.OutcomeKind.{OutcomeKind}
 use Rattle.ep_base.specs.declared.outcome.OutcomeKind.TheVariants.{SelectNext, TryAgain, Approved, Declined, OnlineRequest, TryAnother, EndApplication}
-use Rattle.ep_base.specs.Configuration.{Settings}
-use Rattle.ep_base.specs.EntryPoint.{transaction}
-use Rattle.ep_base.specs.Kernel.{scripted}
-use Rattle.ep_base.specs.PreProcessing.{prepared}
-use Rattle.ep_base.specs.Said.{Start, Pre, Notice, Card, Candidates, Activate, Outcome, Finished, NoCard, Said, Tells, Apdu, End, EndLink, EndBreach}
-use Rattle.law_lane.specs.Standing.{events_of}
-use Rattle.law_lane.specs.Exchanges.{Lane}
-use Rattle.law_run.specs.Bounds.{apdus}
-use Rattle.law_turns.specs.LaneText.{Job}
-use Rattle.law_turns.specs.Telling.{job_after, IsOverAt}
+use Rattle.ep_rules.specs.EntryPoint.Configuration.{Config}
+use Rattle.ep_rules.specs.EntryPoint.Transaction.{transaction}
+use Rattle.ep_rules.specs.EntryPoint.Kernel.{scripted}
+use Rattle.ep_rules.specs.EntryPoint.PreProcessing.{prepared}
+use Rattle.ep_rules.specs.EntryPoint.Event.{Start, Pre, Notice, Card, Candidates, Activate, Outcome, Finished, NoCard, Said, Tells, Apdu, End, EndLink, EndBreach}
+use Rattle.ep_claim.specs.Lanes.Standing.{events_of}
+use Rattle.ep_claim.specs.Lanes.Exchanges.{Lane}
+use Rattle.ep_rules.specs.EntryPoint.Bounds.{apdus}
+use Rattle.ep_claim.specs.Lanes.LaneText.{Job}
+use Rattle.ep_claim.specs.Lanes.Telling.{job_after, IsOverAt}
 use Rattle.scenario.specs.Scene.{Work}
 
 -- How many transactions ended approved, declined or online, by the rules with another outcome, with a failed link, and without a card; and how many
@@ -92,14 +92,14 @@ counts_of events log exchanges =
     (record nothing { apdus = apdus events; executed = length log; exchanges = exchanges })
 
 -- A transaction that is about to begin, as what it says and asks, and its field (EMV Book B).
-abbrev pub job_of : Settings → Work → Job
+abbrev pub job_of : Config → Work → Job
 job_of settings w = record {
   talk = transaction scripted w.txn_type w.amount (prepared settings w.txn_type w.amount) w.scripts;
   field = w.field;
 }
 
 -- The transactions of all lanes, one lane after another (this project's own).
-abbrev pub jobs_in : Settings → List (List Work) → List Job
+abbrev pub jobs_in : Config → List (List Work) → List Job
 jobs_in settings lanes = map (job_of settings) (flat_map (λ (ws : List Work). ws) lanes)
 
 -- The numbers of a transaction after these exchanges (this project's own).

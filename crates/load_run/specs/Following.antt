@@ -1,14 +1,14 @@
 -- A transaction that is counted while it runs (this project's own).
 use Rattle.std.specs.Prelude.{◌≡◌, ℕ, ◌+◌, ◌≤◌, List, length, Option}
 use Rattle.ep_base.specs.declared.outcome.OutcomeKind.{OutcomeKind}
-use Rattle.ep_base.specs.Field.{Field}
-use Rattle.ep_base.specs.Kernel.{Scripted, scripted}
-use Rattle.ep_base.specs.PreProcessing.{Ready, prepared}
-use Rattle.ep_base.specs.Configuration.{Settings}
-use Rattle.ep_base.specs.Talk.{Talk}
-use Rattle.law_lane.specs.Standing.{Standing, events_of}
-use Rattle.law_run.specs.Bounds.{apdus}
-use Rattle.ep_base.specs.KernelCommands.{ScriptedSends}
+use Rattle.ep_base.specs.Cards.Field.{Field}
+use Rattle.ep_rules.specs.EntryPoint.Kernel.{Scripted, scripted}
+use Rattle.ep_rules.specs.EntryPoint.PreProcessing.{Ready, prepared}
+use Rattle.ep_rules.specs.EntryPoint.Configuration.{Config}
+use Rattle.ep_rules.specs.EntryPoint.Talk.{Talk}
+use Rattle.ep_claim.specs.Lanes.Standing.{Standing, events_of}
+use Rattle.ep_rules.specs.EntryPoint.Bounds.{apdus}
+use Rattle.ep_rules.specs.EntryPoint.KernelCommands.{ScriptedSends}
 use Rattle.entry_session.specs.Turns.{View, StandsFor, view_of}
 use Rattle.entry_session.specs.declared.holding.Session.{Session}
 use Rattle.kernel_port.specs.Scripts.{scripted_of}
@@ -30,7 +30,7 @@ pub record IsCountable (ones : List Ready) (k : Scripted) (f : Field) : Type 0 w
   pub room : f.room ≤ 2310
 
 -- So it is of a transaction that is about to begin (this project's own).
-abbrev pub CanCount : Settings → Work → Type 0
+abbrev pub CanCount : Config → Work → Type 0
 CanCount settings w = IsCountable (prepared settings w.txn_type w.amount) w.scripts w.field
 
 -- A session whose kernels follow scripts, in plain data (this project's own).

@@ -4,12 +4,12 @@ use Rattle.std.specs.Prelude.{Some, None, is_none}
 use Rattle.std.specs.List.{list_all}
 use Rattle.std.proofs.lemmas.List.{append-nil, map-append}
 use Rattle.std.proofs.lemmas.List.Folds.{list_all-append}
-use Rattle.ep_base.specs.Hearing.{Activated, RoundEnd}
+use Rattle.ep_base.specs.Air.Heard.{Activated, RoundEnd}
 use Rattle.rf_frame.specs.Meaning.{round_end_of}
 use Rattle.rf_frame.specs.declared.cards.RoundEnd as RoundEnds
 use Rattle.poll_activate.specs.Meaning.{ends_of}
-use Rattle.ep_base.specs.Medium.{MediumSteps}
-use Rattle.ep_base.specs.Polling.{Polled, Came, NoCard, Device, card_in, PlaysRound, PlaysRounds}
+use Rattle.ep_base.specs.Air.Medium.{MediumSteps}
+use Rattle.ep_base.specs.Poll.Polling.{Polled, Came, NoCard, Device, card_in, PlaysRound, PlaysRounds}
 
 module _ {S : Type 0} (steps : MediumSteps S) (fsdi : ℕ) (Whole : List RoundEnd → Polled → S → Type 0) (done : List RoundEnd) where
   -- What so many more rounds give comes after the ends so far.

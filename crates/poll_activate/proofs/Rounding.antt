@@ -3,13 +3,13 @@ use Rattle.std.proofs.Common.{◌≡◌, ◌+◌, ◌*◌, ◌-◌, ◌<◌, ◌
 use Rattle.std.specs.Prelude.{Option, Some, None, Result, Ok, Err}
 use Rattle.ep_base.specs.declared.activation.Ats.{Ats}
 use Rattle.ep_base.specs.declared.activation.AtsFault.{AtsFault}
-use Rattle.ep_base.specs.Activation.{ats}
-use Rattle.ep_base.specs.Hearing.{Asked, Hearing, is_silent, RoundEnd, Empty, Collision, Unsupported, Broken, Turn, Goes, Ends, place_of, end_of, Awaited, Says, Fails, awaited, on_answer}
-use Rattle.ep_base.specs.TypeA.{AStage, Woken, Level, Select, Complete, a_says, a_wave, after_ats}
-use Rattle.ep_base.specs.TypeB.{BStage, b_says, b_found}
-use Rattle.ep_base.specs.Round.{Stage, Waking, Halting, WakingB, InA, InB, round_asks, round_hears, in_a, in_b}
-use Rattle.ep_base.specs.Medium.{MediumSteps, Exchanges}
-use Rattle.ep_base.specs.Polling.{Plays, PlaysRound}
+use Rattle.ep_base.specs.Cards.Activation.{ats}
+use Rattle.ep_base.specs.Air.Heard.{Ask, Heard, is_silent, RoundEnd, Empty, Collision, Unsupported, Broken, Turn, Goes, Ends, place_of, end_of, Awaited, Says, Fails, awaited, on_answer}
+use Rattle.ep_base.specs.Cards.TypeA.{AStage, Woken, Level, Select, Complete, a_says, a_wave, after_ats}
+use Rattle.ep_base.specs.Cards.TypeB.{BStage, b_says, b_found}
+use Rattle.ep_base.specs.Poll.Round.{Stage, Waking, Halting, WakingB, InA, InB, round_asks, round_hears, in_a, in_b}
+use Rattle.ep_base.specs.Air.Medium.{MediumSteps, Exchanges}
+use Rattle.ep_base.specs.Poll.Polling.{Plays, PlaysRound}
 use Rattle.poll_activate.specs.Poll.{asked_in, turn_in}
 
 -- How many exchanges a round still has at most, with the one whose frame is sent next.
@@ -90,7 +90,7 @@ answered_b : (s : BStage) (w : Awaited) → Fewer (in_b (on_answer (b_says s) w)
 answered_b s (Says message) = says_b s _ _ _
 answered_b s (Fails e) = tt
 
-fewer : (stage : Stage) (heard : Hearing) → Fewer (round_hears stage heard) (left stage)
+fewer : (stage : Stage) (heard : Heard) → Fewer (round_hears stage heard) (left stage)
 fewer Waking heard = woken (is_silent heard)
 fewer Halting heard = omega arith
 fewer (WakingB true) heard = woken_too (is_silent heard)
@@ -131,7 +131,7 @@ module _ {S : Type 0} (steps : MediumSteps S) (fsdi : ℕ) (Whole : Option Round
     pub enough : left stage ≤ n
     pub whole : (ending : Option RoundEnd) (t : S) → Plays steps fsdi n (Goes stage) s ending t → Whole ending t
 
-  next_at : (n : ℕ) (stage : Stage) (q : Option Stage) (s u : S) (h : Hearing) → left stage ≤ n
+  next_at : (n : ℕ) (stage : Stage) (q : Option Stage) (s u : S) (h : Heard) → left stage ≤ n
       → ((ending : Option RoundEnd) (t : S) → Plays steps fsdi n (Goes stage) s ending t → Whole ending t)
       → Exchanges steps s (round_asks fsdi stage) (Some h) u
       → q ≡ place_of (round_hears stage h) → None ≡ end_of (round_hears stage h) → From q u
@@ -149,16 +149,16 @@ module _ {S : Type 0} (steps : MediumSteps S) (fsdi : ℕ) (Whole : Option Round
       }
 
   -- What is asked at a stage.
-  asks_at : (p : Option Stage) (s : S) (f : From p s) (ask : Asked) (k : ℕ) → ask ≡ asked_in k p → k ≡ fsdi → ask ≡ round_asks fsdi f.stage
+  asks_at : (p : Option Stage) (s : S) (f : From p s) (ask : Ask) (k : ℕ) → ask ≡ asked_in k p → k ≡ fsdi → ask ≡ round_asks fsdi f.stage
   asks_at p s f ask k a e = a ∙ ap (λ x. asked_in k x) f.at ∙ ap (λ n. round_asks n f.stage) e
 
   -- One exchange more, after which the round goes on.
-  pub next : (p q : Option Stage) (s u : S) (ask : Asked) (h : Hearing) (k : ℕ) → From p s → ask ≡ asked_in k p → k ≡ fsdi
+  pub next : (p q : Option Stage) (s u : S) (ask : Ask) (h : Heard) (k : ℕ) → From p s → ask ≡ asked_in k p → k ≡ fsdi
       → Exchanges steps s ask (Some h) u → q ≡ place_of (turn_in p h) → None ≡ end_of (turn_in p h) → From q u
   next p q s u ask h k f a same x e over =
       next_at f.n f.stage q s u h f.enough f.whole (rw (asks_at p s f ask k a same) at x) (rw f.at at e) (rw f.at at over)
 
-  last_at : (n : ℕ) (stage : Stage) (s u : S) (h : Hearing) (ending : RoundEnd) → left stage ≤ n
+  last_at : (n : ℕ) (stage : Stage) (s u : S) (h : Heard) (ending : RoundEnd) → left stage ≤ n
       → ((ending : Option RoundEnd) (t : S) → Plays steps fsdi n (Goes stage) s ending t → Whole ending t)
       → Exchanges steps s (round_asks fsdi stage) (Some h) u
       → Some ending ≡ end_of (round_hears stage h) → Whole (Some ending) u
@@ -168,7 +168,7 @@ module _ {S : Type 0} (steps : MediumSteps S) (fsdi : ℕ) (Whole : Option Round
       whole (Some ending) u (Some h, u, x, over_in steps fsdi n (round_hears stage h) u ending (ends_at (round_hears stage h) ending over))
 
   -- The last exchange.
-  pub last : (p : Option Stage) (s u : S) (ask : Asked) (h : Hearing) (k : ℕ) (ending : RoundEnd) → From p s → ask ≡ asked_in k p → k ≡ fsdi
+  pub last : (p : Option Stage) (s u : S) (ask : Ask) (h : Heard) (k : ℕ) (ending : RoundEnd) → From p s → ask ≡ asked_in k p → k ≡ fsdi
       → Exchanges steps s ask (Some h) u → Some ending ≡ end_of (turn_in p h) → Whole (Some ending) u
   last p s u ask h k ending f a same x over =
       last_at f.n f.stage s u h ending f.enough f.whole (rw (asks_at p s f ask k a same) at x) (rw f.at at over)
@@ -181,7 +181,7 @@ module _ {S : Type 0} (steps : MediumSteps S) (fsdi : ℕ) (Whole : Option Round
   lost_at (suc n) stage s u le whole x = whole None u (None, u, x, (refl, refl))
 
   -- A call that fails.
-  pub lost : (p : Option Stage) (s u : S) (ask : Asked) (k : ℕ) → From p s → ask ≡ asked_in k p → k ≡ fsdi → Exchanges steps s ask None u → Whole None u
+  pub lost : (p : Option Stage) (s u : S) (ask : Ask) (k : ℕ) → From p s → ask ≡ asked_in k p → k ≡ fsdi → Exchanges steps s ask None u → Whole None u
   lost p s u ask k f a same x = lost_at f.n f.stage s u f.enough f.whole (rw (asks_at p s f ask k a same) at x)
 
 -- A round begins.

@@ -1,8 +1,8 @@
 -- What the answers of polling mean, in plain data (this project's own).
 use Rattle.std.specs.Prelude.{◌≡◌, true, List, length, map, Option, Some, None, Result, Ok, Err, is_none}
 use Rattle.std.specs.List.{list_all}
-use Rattle.ep_base.specs.Hearing as air
-use Rattle.ep_base.specs.Polling.{Polled, Came, NoCard, Device, card_in}
+use Rattle.ep_base.specs.Air.Heard as air
+use Rattle.ep_base.specs.Poll.Polling.{Polled, Came, NoCard, Device, card_in}
 use Rattle.rf_frame.specs.Meaning.{round_end_of}
 use Rattle.rf_frame.specs.declared.cards.RoundEnd.{RoundEnd}
 use Rattle.poll_activate.specs.declared.polling.PollEnd.{PollEnd}

@@ -1,8 +1,8 @@
 -- A reader in a poll round (this project's own).
 use Rattle.std.specs.Prelude.{◌≡◌, ℕ, List, [], Option, Some, None}
 use Rattle.ep_base.specs.declared.air.Wave.TheVariants.{B}
-use Rattle.ep_base.specs.Hearing.{Asked, asks, Hearing, Turn, Ends, Broken, place_of}
-use Rattle.ep_base.specs.Round.{Stage, round_asks, round_hears, round_after}
+use Rattle.ep_base.specs.Air.Heard.{Ask, asks, Heard, Turn, Ends, Broken, place_of}
+use Rattle.ep_base.specs.Poll.Round.{Stage, round_asks, round_hears, round_after}
 
 -- Its FSDI, and what it sent last while the round goes on.
 pub record PollState : Type 0 where
@@ -10,27 +10,27 @@ pub record PollState : Type 0 where
   pub stage : Option Stage
 
 -- The next frame, where the round goes on.
-abbrev pub asked_in : ℕ → Option Stage → Asked
+abbrev pub asked_in : ℕ → Option Stage → Ask
 asked_in fsdi (Some stage) = round_asks fsdi stage
 asked_in fsdi None = asks B []
 
 -- The next frame of a poll (this project's own).
-abbrev pub asked : PollState → Asked
+abbrev pub asked : PollState → Ask
 asked p = asked_in p.fsdi p.stage
 
 -- The next frame after these answers, where the round goes on.
-abbrev pub asked_after : ℕ → List Hearing → Asked
+abbrev pub asked_after : ℕ → List Heard → Ask
 asked_after fsdi answers = asked_in fsdi (place_of (round_after answers))
 
 -- What follows a hearing, where the round goes on.
-abbrev pub turn_in : Option Stage → Hearing → Turn Stage
+abbrev pub turn_in : Option Stage → Heard → Turn Stage
 turn_in (Some stage) heard = round_hears stage heard
 turn_in None heard = Ends Broken
 
 -- What follows a hearing in a poll (this project's own).
-abbrev pub turn : PollState → Hearing → Turn Stage
+abbrev pub turn : PollState → Heard → Turn Stage
 turn p heard = turn_in p.stage heard
 
 -- The round stands where these answers lead.
-abbrev pub StandsFor : PollState → List Hearing → Type 0
+abbrev pub StandsFor : PollState → List Heard → Type 0
 StandsFor p answers = p.stage ≡ place_of (round_after answers)

@@ -1,6 +1,6 @@
 -- What a poll's fields mean (this project's own).
 use Rattle.std.specs.Prelude.{◌≡◌, ℕ, ◌<◌, Option, Some, None, option_map}
-use Rattle.ep_base.specs.Round as rule
+use Rattle.ep_base.specs.Poll.Round as rule
 use Rattle.type_b.specs.Reader.{stage_at}
 use Rattle.poll_activate.specs.Poll.{PollState}
 use Rattle.poll_activate.specs.declared.reader.Poll.TheInside.{Inside}

@@ -1,9 +1,9 @@
 //! Poll rounds over a medium.
 ghost use Rattle.std.specs.Prelude.{◌≡◌, ◌<◌, ◌↔◌, IsErr, IsErrOf, IfOk, IfSome};
 ghost use Rattle.arrayvec.specs.ArrayVec.{array_vec_len};
-ghost use Rattle.ep_base.specs.CardLimits.{AreLimits, EndsInLimits};
-ghost use Rattle.ep_base.specs.Causes.{HasCause};
-ghost use Rattle.ep_base.specs.Polling.{PlaysRound, PlaysRounds, card_in};
+ghost use Rattle.ep_base.specs.Cards.CardLimits.{AreLimits, EndsInLimits};
+ghost use Rattle.ep_base.specs.Streams.Causes.{HasCause};
+ghost use Rattle.ep_base.specs.Poll.Polling.{PlaysRound, PlaysRounds, card_in};
 ghost use Rattle.rf_frame.specs.Meaning.{round_end_of};
 ghost use Rattle.poll_activate.specs.Meaning.{ended, ends_of, polled_of, AreAllWithoutCard};
 

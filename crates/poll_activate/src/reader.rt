@@ -1,9 +1,9 @@
 //! A poll round, one frame at a time.
 ghost use Rattle.std.specs.Prelude.{◌≡◌, ◌<◌, IsSome, IfSome, List, [], ◌∷◌, ◌++◌};
-ghost use Rattle.ep_base.specs.CardLimits.{EndsInLimits};
+ghost use Rattle.ep_base.specs.Cards.CardLimits.{EndsInLimits};
 ghost use Rattle.std.specs.Option.{IsNone};
-ghost use Rattle.ep_base.specs.Hearing.{place_of, end_of, Hearing};
-ghost use Rattle.ep_base.specs.Round.{Waking as AtWaking, WakingB as AtWakingB, round_hears, round_after};
+ghost use Rattle.ep_base.specs.Air.Heard.{place_of, end_of, Heard as Hearing};
+ghost use Rattle.ep_base.specs.Poll.Round.{Waking as AtWaking, WakingB as AtWakingB, round_hears, round_after};
 ghost use Rattle.rf_frame.specs.Meaning.{heard_of, maybe_end, round_end_of};
 ghost use Rattle.poll_activate.specs.Poll.{asked, asked_after, turn, StandsFor};
 

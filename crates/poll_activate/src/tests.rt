@@ -29,7 +29,7 @@ fn heard(answer: CardHear) -> Heard {
 
 impl Medium for Cards {
     ghost use Rattle.std.specs.Prelude.{ℕ};
-    ghost use Rattle.ep_base.specs.Medium.{untold};
+    ghost use Rattle.ep_base.specs.Air.Medium.{untold};
 
     ghost State = { Unit {0} };
 
@@ -177,7 +177,7 @@ struct Late {
 
 impl Medium for Late {
     ghost use Rattle.std.specs.Prelude.{ℕ};
-    ghost use Rattle.ep_base.specs.Medium.{untold};
+    ghost use Rattle.ep_base.specs.Air.Medium.{untold};
 
     ghost State = { Unit {0} };
 

@@ -5,8 +5,8 @@ use Rattle.std.specs.List.{count_by}
 use Rattle.std.proofs.lemmas.Bool.{eq-eqb, ne_eqb, cases_eq, cases_lt, lt-leb, cases_Bool}
 use Rattle.std.proofs.lemmas.List.{length-append}
 use Rattle.std.proofs.lemmas.List.Sums.{sum_by-cons}
-use Rattle.ep_base.specs.Objects.{Forest, nothing, padding, primitive, constructed, spelling, IsForest, IsTag, IsLength, tag_number}
-use Rattle.ep_base.specs.Directory.{Entry, first_value, entry_of, entries_in, is_name, is_named}
+use Rattle.ep_base.specs.Objects.Forest.{Forest, nothing, padding, primitive, constructed, spelling, IsForest, IsTag, IsLength, tag_number}
+use Rattle.ep_base.specs.Objects.Directory.{Entry, first_value, entry_of, entries_in, is_name, is_named}
 use Rattle.ppse.specs.Room.{value_cost, entry_cost, entries_cost}
 
 tag_long : (t : List ℕ) → IsTag t → 1 ≤ length t

@@ -1,9 +1,9 @@
 -- What the groups of an arena hold after entries are put.
 use Rattle.std.proofs.Common.{◌≡◌, ◌≢◌, ℕ, zero, suc, ◌+◌, ◌<◌, ◌≤◌, ◌⊎◌, inl, inr, Bool, true, false, cond, ◌&&◌, List, [], ◌∷◌, ◌++◌, length, Option, Some, None, refl, sym, ap, ◌∙◌, arith, eqb}
 use Rattle.std.proofs.lemmas.Bool.{eq-eqb, ne_eqb, cases_eq, cases_Bool}
-use Rattle.ep_base.specs.Arena.{Object, Contents, value_in, without_group, has_room, added, after}
-use Rattle.ep_base.specs.Arena as kept
-use Rattle.ep_base.specs.Directory.{Entry, with_value, with_entry, with_entries, entry_held, held_from}
+use Rattle.ep_base.specs.Objects.Arena.{Object, Contents, value_in, without_group, has_room, added, after}
+use Rattle.ep_base.specs.Objects.Arena as kept
+use Rattle.ep_base.specs.Objects.Directory.{Entry, with_value, with_entry, with_entries, entry_held, held_from}
 
 -- OBJECTS
 

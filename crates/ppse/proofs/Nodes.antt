@@ -6,9 +6,9 @@ use Rattle.std.proofs.Math.Seq.{drop-append-add}
 use Rattle.std.proofs.lemmas.Bool.{ne_eqb, cases_Bool}
 use Rattle.std.proofs.lemmas.List.{append-nil, drop_at, take_at, drop-drop}
 use Rattle.ep_base.specs.declared.objects.Node.{Node}
-use Rattle.ep_base.specs.Objects.{Forest, nothing, padding, primitive, constructed, spelling, nodes, IsForest, tag_number}
-use Rattle.ep_base.specs.Reading.{forest_of}
-use Rattle.ep_base.specs.Directory.{Entry, first_value, first_inside, entry_of, entries_in, entries_of}
+use Rattle.ep_base.specs.Objects.Forest.{Forest, nothing, padding, primitive, constructed, spelling, nodes, IsForest, tag_number}
+use Rattle.ep_base.specs.Objects.Reading.{forest_of}
+use Rattle.ep_base.specs.Objects.Directory.{Entry, first_value, first_inside, entry_of, entries_in, entries_of}
 use Rattle.ppse.specs.Listing.{is_top, next_in, left_after, value_at, first_in, entry_in, entries_at}
 use Rattle.tlv_core.specs.Nodes.{AllWithin}
 

@@ -4,10 +4,10 @@ use Rattle.std.specs.Prelude.{IfSome}
 use Rattle.std.specs.Option.{option_map}
 use Rattle.std.proofs.lemmas.Bool.{eq-eqb, ne_eqb, cases_Bool}
 use Rattle.std.proofs.lemmas.List.{length-append}
-use Rattle.ep_base.specs.Objects.{Forest, nothing, padding, primitive, constructed, spelling, IsForest, tag_number}
-use Rattle.ep_base.specs.Reading.{forest_of}
-use Rattle.ep_base.specs.Apdu.{data_of, status_of}
-use Rattle.ep_base.specs.Directory.{first_inside, inside, entries_of, entries_read, directory}
+use Rattle.ep_base.specs.Objects.Forest.{Forest, nothing, padding, primitive, constructed, spelling, IsForest, tag_number}
+use Rattle.ep_base.specs.Objects.Reading.{forest_of}
+use Rattle.ep_base.specs.Cards.Apdu.{data_of, status_of}
+use Rattle.ep_base.specs.Objects.Directory.{first_inside, inside, entries_of, entries_read, directory}
 use Rattle.ppse.specs.Listing.{listed}
 use Rattle.ppse.specs.Room.{entries_cost}
 use Rattle.ppse.proofs.Nodes.{Again, shallower}

@@ -1,8 +1,8 @@
 -- The room that is left after values are put.
 use Rattle.std.proofs.Common.{◌≡◌, ℕ, ◌+◌, ◌-◌, ◌*◌, ◌^◌, ◌<◌, ◌≤◌, List, [], ◌∷◌, ◌++◌, length, Option, Some, None, refl, sym, subst, ◌∙◌, arith}
 use Rattle.std.proofs.lemmas.List.{length-append}
-use Rattle.ep_base.specs.Arena.{Object, Contents, live_bytes, HasRoom}
-use Rattle.ep_base.specs.Directory.{Entry, with_value, with_entry, with_entries}
+use Rattle.ep_base.specs.Objects.Arena.{Object, Contents, live_bytes, HasRoom}
+use Rattle.ep_base.specs.Objects.Directory.{Entry, with_value, with_entry, with_entries}
 use Rattle.ppse.specs.Room.{value_cost, entry_cost, entries_cost, HasSpare}
 
 live_bytes-push : (os : List Object) (o : Object) → live_bytes (os ++ o ∷ []) ≡ live_bytes os + length o.value

@@ -3,9 +3,9 @@ use Rattle.std.specs.Prelude.{ℕ, ◌+◌, ◌==◌, ◌&&◌, Bool, true, fals
 use Rattle.std.specs.Bool.{beq}
 use Rattle.std.specs.Option.{option_map}
 use Rattle.ep_base.specs.declared.objects.Node.{Node}
-use Rattle.ep_base.specs.Objects.{Forest, spelling}
-use Rattle.ep_base.specs.Reading.{forest_of}
-use Rattle.ep_base.specs.Directory.{Entry, first_value, inside, entries_of}
+use Rattle.ep_base.specs.Objects.Forest.{Forest, spelling}
+use Rattle.ep_base.specs.Objects.Reading.{forest_of}
+use Rattle.ep_base.specs.Objects.Directory.{Entry, first_value, inside, entries_of}
 
 -- The node stands in no other, and has this tag and kind.
 abbrev pub is_top : Bool → ℕ → Node → Bool

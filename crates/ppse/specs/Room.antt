@@ -1,7 +1,7 @@
 -- The room that entries take (this project's own). Each value comes with at least two bytes, tag and length, and so does each entry.
 use Rattle.std.specs.Prelude.{ℕ, ◌+◌, ◌-◌, ◌*◌, ◌^◌, ◌≤◌, List, [], ◌∷◌, length, Option, Some, None}
-use Rattle.ep_base.specs.Arena.{Contents, live_bytes}
-use Rattle.ep_base.specs.Directory.{Entry}
+use Rattle.ep_base.specs.Objects.Arena.{Contents, live_bytes}
+use Rattle.ep_base.specs.Objects.Directory.{Entry}
 
 abbrev pub value_cost : Option (List ℕ) → ℕ
 value_cost None = 0

@@ -1,7 +1,7 @@
 //! The entries of a directory, put into an arena.
 ghost use Rattle.std.specs.Prelude.{◌≡◌, ◌≤◌, ◌<◌, length, false};
-ghost use Rattle.ep_base.specs.Reading.{forest_of};
-ghost use Rattle.ep_base.specs.Directory.{entries_of, with_value, with_entry, with_entries};
+ghost use Rattle.ep_base.specs.Objects.Reading.{forest_of};
+ghost use Rattle.ep_base.specs.Objects.Directory.{entries_of, with_value, with_entry, with_entries};
 ghost use Rattle.ppse.specs.Listing.{first_in, entry_in};
 ghost use Rattle.ppse.specs.Room.{HasSpare, value_cost, entry_cost, entries_cost};
 

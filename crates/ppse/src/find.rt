@@ -1,7 +1,7 @@
 //! The search for an object among those of a template's value.
 ghost use Rattle.std.specs.Prelude.{◌≡◌};
 ghost use Rattle.std.specs.Option.{option_map};
-ghost use Rattle.ep_base.specs.Reading.{forest_of};
+ghost use Rattle.ep_base.specs.Objects.Reading.{forest_of};
 ghost use Rattle.ppse.specs.Listing.{is_top, next_in, left_after, first_in};
 
 use tlv_core::{Node, Walk, read};

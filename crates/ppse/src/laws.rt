@@ -1,7 +1,7 @@
 //! A law of directories in an arena, for the proofs of the crates above. It does nothing.
 ghost use Rattle.std.specs.Prelude.{◌≡◌, ◌⊎◌, ℕ, ◌<◌, List};
-ghost use Rattle.ep_base.specs.Arena as kept;
-ghost use Rattle.ep_base.specs.Directory.{entries_held};
+ghost use Rattle.ep_base.specs.Objects.Arena as kept;
+ghost use Rattle.ep_base.specs.Objects.Directory.{entries_held};
 
 /// Puts into other groups and dropping them leave the entries as they are.
 pub fn other_groups()

@@ -4,8 +4,8 @@
 ghost use Rattle.std.specs.Prelude.{◌≡◌, ◌+◌, ◌*◌, ◌^◌, ◌<◌, ◌≤◌, [], length, IfSome};
 ghost use Rattle.std.specs.Option.{option_map};
 ghost use Rattle.std.specs.List.{count_by};
-ghost use Rattle.ep_base.specs.Arena.{live_bytes, value_in};
-ghost use Rattle.ep_base.specs.Directory.{directory, is_named, with_entries, entries_held};
+ghost use Rattle.ep_base.specs.Objects.Arena.{live_bytes, value_in};
+ghost use Rattle.ep_base.specs.Objects.Directory.{directory, is_named, with_entries, entries_held};
 ghost use Rattle.ppse.specs.Listing.{listed};
 
 mod entries;

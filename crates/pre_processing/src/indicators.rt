@@ -18,7 +18,7 @@ pub struct Indicators {
 }
 
 impl Model for Indicators {
-    ghost use Rattle.ep_base.specs.PreProcessing.{Indicators as Truths};
+    ghost use Rattle.ep_rules.specs.EntryPoint.PreProcessing.{Indicators as Truths};
 
     ghost Value = { Truths };
 

@@ -1,7 +1,7 @@
 //! What Pre-Processing gives.
 ghost use Rattle.std.specs.Prelude.{◌≡◌, ◌≤◌, length};
 ghost use Rattle.std.specs.List.{list_any};
-ghost use Rattle.ep_base.specs.PreProcessing.{any_allowed, is_allowed};
+ghost use Rattle.ep_rules.specs.EntryPoint.PreProcessing.{any_allowed, is_allowed};
 
 use crate::Indicators;
 use acquirer_config::Combination;
@@ -22,7 +22,7 @@ pub struct PreparedOne {
 }
 
 impl Model for PreparedOne {
-    ghost use Rattle.ep_base.specs.PreProcessing.{Ready};
+    ghost use Rattle.ep_rules.specs.EntryPoint.PreProcessing.{Ready};
 
     ghost Value = { Ready };
 

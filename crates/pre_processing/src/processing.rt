@@ -1,6 +1,6 @@
 //! Pre-Processing.
 ghost use Rattle.std.specs.Prelude.{◌≡◌, ◌<◌, ◌≤◌, IfSome};
-ghost use Rattle.ep_base.specs.PreProcessing.{reaches, exceeds, floor_limit, refuses_zero, is_online_only, is_zero, indicators, needs_online, second_byte, marked, prepared_one, prepared};
+ghost use Rattle.ep_rules.specs.EntryPoint.PreProcessing.{reaches, exceeds, floor_limit, refuses_zero, is_online_only, is_zero, indicators, needs_online, second_byte, marked, prepared_one, prepared};
 
 use crate::{Indicators, Prepared, PreparedOne};
 use acquirer_config::{Combination, Config};

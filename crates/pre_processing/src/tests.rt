@@ -1,6 +1,6 @@
 //! One Combination at a time, with what is found of it.
 ghost use Rattle.std.specs.Option.{ForSome};
-ghost use Rattle.ep_base.specs.Configuration.{IsAmount, IsCombination};
+ghost use Rattle.ep_rules.specs.EntryPoint.Configuration.{IsAmount, IsCombination};
 
 use crate::{Indicators, prepare};
 use acquirer_config::{Combination, Config};

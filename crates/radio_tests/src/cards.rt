@@ -1,7 +1,7 @@
 //! The cards, the settings and the kernel of a usual purchase.
 ghost use Rattle.std.specs.Prelude.{◌≡◌, ◌≤◌, IfOk, length};
-ghost use Rattle.ep_base.specs.CardAnswer.{AreAnswers, IsApp, IsRule, unused};
-ghost use Rattle.ep_base.specs.Configuration.{IsCombination};
+ghost use Rattle.ep_base.specs.Cards.CardAnswer.{AreAnswers, IsApp, IsRule, unused};
+ghost use Rattle.ep_rules.specs.EntryPoint.Configuration.{IsCombination};
 ghost use Rattle.rf_field.specs.Meaning.{IsRun};
 ghost use Rattle.rf_field.specs.Plans.{PlanFits};
 

@@ -5,7 +5,7 @@ use Rattle.std.proofs.Math.Seq.{take-set-lt}
 use Rattle.std.proofs.lemmas.List.{map-append, map-set, take-take, take-map, take_more, take_more_set, drop-take, length-take, length-drop, length-append, length-map, get_or-drop, append_assoc, take-append-drop, drop-map}
 use Rattle.std.proofs.lemmas.Option.{get_or_from_slice_get}
 use Rattle.raw_block.specs.Filling.{filled}
-use Rattle.ep_base.specs.RawBytes.{run, slid}
+use Rattle.ep_base.specs.Objects.RawBytes.{run, slid}
 
 filled-map : (xs : List ℕ) → filled (map Some xs) ≡ xs
 filled-map [] = refl

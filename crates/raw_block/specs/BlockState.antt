@@ -1,6 +1,6 @@
 -- What a block's fields hold (this project's own).
 use Rattle.std.specs.Prelude.{◌≡◌, ◌≤◌, length, take}
-use Rattle.ep_base.specs.RawBytes.{Block, block}
+use Rattle.ep_base.specs.Objects.RawBytes.{Block, block}
 use Rattle.raw_block.specs.Filling.{filled, IsFilledTo}
 use Rattle.raw_block.specs.declared.RawBlock.TheInside.{Inside}
 

@@ -5,7 +5,7 @@
 #![tactic(auto)]
 
 ghost use Rattle.std.specs.Prelude.{◌≡◌, ℕ, ◌+◌, ◌≤◌, ◌<◌, [], ◌∷◌, ◌++◌, length, take, slice_set, slice_get, Some, IfOk};
-ghost use Rattle.ep_base.specs.RawBytes.{block, run, slid};
+ghost use Rattle.ep_base.specs.Objects.RawBytes.{block, run, slid};
 
 mod cells;
 
@@ -28,7 +28,7 @@ pub struct RawBlock {
 }
 
 impl Model for RawBlock {
-    ghost use Rattle.ep_base.specs.RawBytes.{Block, block_code};
+    ghost use Rattle.ep_base.specs.Objects.RawBytes.{Block, block_code};
     ghost use Rattle.raw_block.specs.BlockState.{bytes_of, IsBlock};
 
     ghost Value = { Block };

@@ -3,7 +3,7 @@ use Rattle.std.specs.Prelude.{ℕ, List, codes}
 use Rattle.doc_table.specs.declared.fault.DocKind.{DocKind}
 use Rattle.doc_table.specs.declared.fault.DocKind.TheVariants.{UnknownKey, Missing, WrongKind, BadValue, TooMany, Conflict}
 use Rattle.doc_table.specs.Fault.{Fault}
-use Rattle.ep_base.specs.FaultText.{bad_document}
+use Rattle.ep_claim.specs.Text.FaultText.{bad_document}
 
 abbrev pub fault_word : DocKind → List ℕ
 fault_word UnknownKey = codes "unknown-key"

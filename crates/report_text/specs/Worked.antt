@@ -3,9 +3,9 @@ use Rattle.std.specs.Prelude.{ℕ, List, [], ◌∷◌, false, None}
 use Rattle.ep_base.specs.declared.air.CardKind.TheVariants as kinds
 use Rattle.ep_base.specs.declared.outcome.OutcomeKind.TheVariants as outcomes
 use Rattle.ep_base.specs.declared.outcome.Message.TheVariants as messages
-use Rattle.ep_base.specs.Configuration.{Combination}
-use Rattle.ep_base.specs.PreProcessing.{Indicators}
-use Rattle.ep_base.specs.Said.{Start, Pre, Notice, Card, Candidates, Activate, Outcome, Finished, Said, Tells, Apdu, End}
+use Rattle.ep_rules.specs.EntryPoint.Configuration.{Combination}
+use Rattle.ep_rules.specs.EntryPoint.PreProcessing.{Indicators}
+use Rattle.ep_rules.specs.EntryPoint.Event.{Start, Pre, Notice, Card, Candidates, Activate, Outcome, Finished, Said, Tells, Apdu, End}
 
 abbrev aid : List ℕ
 aid = 0xa0 ∷ 0x00 ∷ 0x00 ∷ 0x00 ∷ 0x03 ∷ 0x10 ∷ 0x10 ∷ []

@@ -1,6 +1,6 @@
 //! What a kernel is given.
 ghost use Rattle.std.specs.Prelude.{◌≡◌, ◌≤◌, ◌+◌, ◌++◌, length, codes, decimal};
-ghost use Rattle.ep_base.specs.ReportLine.{activate_text, hex, ttq_text};
+ghost use Rattle.ep_claim.specs.Text.ReportLine.{activate_text, hex, ttq_text};
 
 use crate::pieces::{push_hex, push_number, push_ttq};
 use ep_base::Line;

@@ -1,6 +1,6 @@
 //! The events, each written after the numbers of lane and transaction.
 ghost use Rattle.std.specs.Prelude.{◌≡◌, ◌≤◌, ◌+◌, ◌++◌, ◌∷◌, [], length, codes, decimal, not, Some, None};
-ghost use Rattle.ep_base.specs.ReportLine.{card_word, hex, kind_word, message_row, truth, ttq_text};
+ghost use Rattle.ep_claim.specs.Text.ReportLine.{card_word, hex, kind_word, message_row, truth, ttq_text};
 
 use crate::pieces::{push_hex, push_number, push_truth, push_ttq};
 use crate::words::{card_word, identifier, kind_word, message_words};

@@ -1,6 +1,6 @@
 //! The lines.
 ghost use Rattle.std.specs.Prelude.{◌≡◌, ◌≤◌, ◌++◌, [], length};
-ghost use Rattle.ep_base.specs.ReportLine.{line_of, said_text};
+ghost use Rattle.ep_claim.specs.Text.ReportLine.{line_of, said_text};
 ghost use Rattle.session_event.specs.Event.{said_of, said_of_end};
 
 use crate::activated::push_activation;
@@ -14,7 +14,7 @@ use session_event::{End, Event};
 
 /// Writes the line of an event of a lane's transaction, with its newline. Lanes are numbered from 1, and so are the
 /// transactions of a lane. `out` is empty, and every line fits.
-#[tactic(auto, unfolding(ep_base::specs::ReportLine::line_of))]
+#[tactic(auto, unfolding(ep_claim::specs::Text::ReportLine::line_of))]
 pub fn line_of(lane: u8, txn: u8, event: &Event, out: &mut Line)
     requires { out.old.bytes ≡ [] }
     ensures { out.new.bytes ≡ line_of lane txn (said_of event.now) }

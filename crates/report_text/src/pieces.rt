@@ -1,6 +1,6 @@
 //! The pieces of a line. Each is pushed at its end.
 ghost use Rattle.std.specs.Prelude.{◌≡◌, ◌≤◌, ◌+◌, ◌*◌, ◌++◌, length, codes, decimal};
-ghost use Rattle.ep_base.specs.ReportLine.{hex, prefix, truth, ttq_text};
+ghost use Rattle.ep_claim.specs.Text.ReportLine.{hex, prefix, truth, ttq_text};
 
 use ep_base::Line;
 use itoa::Buffer;

@@ -1,6 +1,6 @@
 //! What Pre-Processing found of a Combination.
 ghost use Rattle.std.specs.Prelude.{◌≡◌, ◌≤◌, ◌+◌, ◌++◌, length, codes, decimal, not};
-ghost use Rattle.ep_base.specs.ReportLine.{hex, pre_text, truth};
+ghost use Rattle.ep_claim.specs.Text.ReportLine.{hex, pre_text, truth};
 
 use crate::pieces::{push_hex, push_number, push_truth, push_ttq};
 use acquirer_config::Combination;

@@ -1,6 +1,6 @@
 //! The line of a record of a card's log.
 ghost use Rattle.std.specs.Prelude.{◌≡◌, ◌≤◌, ◌++◌, [], length, codes, decimal};
-ghost use Rattle.ep_base.specs.ReportLine.{hex, log_line};
+ghost use Rattle.ep_claim.specs.Text.ReportLine.{hex, log_line};
 
 use crate::pieces::{push_hex, push_number, push_prefix};
 use card_image::Record;
@@ -8,7 +8,7 @@ use ep_base::Line;
 
 /// Writes the line of a record of a log, with its newline: the numbers of lane and transaction, then the card's number
 /// and the command that it executed. `out` is empty, and every line fits.
-#[tactic(auto, unfolding(ep_base::specs::ReportLine::log_line))]
+#[tactic(auto, unfolding(ep_claim::specs::Text::ReportLine::log_line))]
 pub fn log_line(lane: u8, txn: u8, entry: &Record, out: &mut Line)
     requires { out.old.bytes ≡ [] }
     ensures { out.new.bytes ≡ log_line lane txn entry.now }

@@ -1,6 +1,6 @@
 //! Reports that were worked out by hand.
 ghost use Rattle.std.specs.Prelude.{◌≡◌, ◌++◌, ◌∷◌, [], codes};
-ghost use Rattle.ep_base.specs.WrittenText.{lane_text};
+ghost use Rattle.ep_claim.specs.Text.WrittenText.{lane_text};
 ghost use Rattle.report_text.specs.Worked.{purchase};
 
 use crate::{document_fault, line_of, log_line};

@@ -1,6 +1,6 @@
 //! The words that lines have for what the rules decide.
 ghost use Rattle.std.specs.Prelude.{◌≡◌, ◌≤◌, length};
-ghost use Rattle.ep_base.specs.ReportLine.{card_word, kind_word, message_row};
+ghost use Rattle.ep_claim.specs.Text.ReportLine.{card_word, kind_word, message_row};
 
 use ep_base::{CardKind, Message, OutcomeKind};
 

@@ -4,26 +4,26 @@ use Rattle.std.proofs.lemmas.Bool.Decides.{nat_tests}
 use Rattle.std.specs.Str.{bytes_eq}
 use Rattle.ep_base.specs.declared.air.Wave.{Wave}
 use Rattle.ep_base.specs.declared.air.Wave.TheVariants as waves
-use Rattle.ep_base.specs.Activation.{bit}
-use Rattle.ep_base.specs.Frame.{opened}
-use Rattle.ep_base.specs.FrameSize.{frame_size}
-use Rattle.ep_base.specs.Hearing.{framed, same_wave, CardReply, Mute, Sends, Opens, Passes}
-use Rattle.ep_base.specs.TypeA as a
-use Rattle.ep_base.specs.TypeB as b
-use Rattle.ep_base.specs.Field.{Outside, OfA, OfB, outside_after, outside_reply}
+use Rattle.ep_base.specs.Cards.Activation.{bit}
+use Rattle.ep_base.specs.Air.Frame.{opened}
+use Rattle.ep_base.specs.Air.FrameSize.{frame_size}
+use Rattle.ep_base.specs.Air.Heard.{framed, same_wave, CardHear, Mute, Sends, Opens, Passes}
+use Rattle.ep_base.specs.Cards.TypeA as a
+use Rattle.ep_base.specs.Cards.TypeB as b
+use Rattle.ep_base.specs.Cards.Field.{Outside, OfA, OfB, outside_after, outside_reply}
 
 -- the size of a reader's frames
 abbrev pub IsSize : ℕ → Type 0
 IsSize n = (16 ≤ n) × (n ≤ 256)
 
 -- a reply in a state, with the state after it
-abbrev pub Tame : {S : Type 0} → S → S → CardReply → Type 0
+abbrev pub Tame : {S : Type 0} → S → S → CardHear → Type 0
 Tame old new Mute = Unit {0}
 Tame old new (Sends f) = Unit {0}
 Tame old new (Opens f fsd) = IsSize fsd
 Tame old new Passes = new ≡ old
 
-one_of : {S : Type 0} (t : Bool) (old : S) (x y : S × CardReply) → Tame old x.0 x.1 → Tame old y.0 y.1 → Tame old (if t then x else y).0 (if t then x else y).1
+one_of : {S : Type 0} (t : Bool) (old : S) (x y : S × CardHear) → Tame old x.0 x.1 → Tame old y.0 y.1 → Tame old (if t then x else y).0 (if t then x else y).1
 one_of true old x y p q = p
 one_of false old x y p q = q
 
@@ -55,7 +55,7 @@ a_selects old plan level part =
 
 a_readies : (old : a.AState) (plan : a.APlan) (level : ℕ) (wave : Wave) (message : List ℕ) → Tame old (a.a_ready plan level wave message).0 (a.a_ready plan level wave message).1
 a_readies old plan level wave message =
-    let other : a.AState × CardReply = if same_wave wave waves.A && bytes_eq (take 2 message) (a.sel level ∷ 0x70 ∷ []) then a.a_select plan level (drop 2 message) else (a.Ready level, Mute) in
+    let other : a.AState × CardHear = if same_wave wave waves.A && bytes_eq (take 2 message) (a.sel level ∷ 0x70 ∷ []) then a.a_select plan level (drop 2 message) else (a.Ready level, Mute) in
     one_of (same_wave wave waves.ABare && bytes_eq message (a.sel level ∷ 0x20 ∷ [])) old (a.Ready level, Sends (framed waves.ABare (a.level_part plan.uid level))) other tt
     (one_of (same_wave wave waves.A && bytes_eq (take 2 message) (a.sel level ∷ 0x70 ∷ [])) old (a.a_select plan level (drop 2 message)) (a.Ready level, Mute) (a_selects old plan level (drop 2 message)) tt)
 
@@ -73,7 +73,7 @@ a_others old plan a.Halted wave message = tt
 a_taken : (old : a.AState) (plan : a.APlan) (state : a.AState) (wave : Wave) (message : List ℕ) → Tame old (a.a_takes plan state wave message).0 (a.a_takes plan state wave message).1
 unfolding a.a_takes
 a_taken old plan state wave message =
-    let other : a.AState × CardReply = if same_wave wave waves.A && bytes_eq message a.hlta then (a.Halted, Mute) else a.a_other plan state wave message in
+    let other : a.AState × CardHear = if same_wave wave waves.A && bytes_eq message a.hlta then (a.Halted, Mute) else a.a_other plan state wave message in
     one_of (same_wave wave waves.AShort && bytes_eq message a.wupa) old (a.Ready 1, Sends (framed waves.ABare (a.atqa plan.uid))) other tt
     (one_of (same_wave wave waves.A && bytes_eq message a.hlta) old (a.Halted, Mute) (a.a_other plan state wave message) tt (a_others old plan state wave message))
 
@@ -100,7 +100,7 @@ b_others old plan b.BProtocol message = tt
 b_taken : (old : b.BState) (plan : b.BPlan) (state : b.BState) (wave : Wave) (message : List ℕ) → Tame old (b.b_takes plan state wave message).0 (b.b_takes plan state wave message).1
 unfolding b.b_takes
 b_taken old plan state wave message =
-    let other : b.BState × CardReply = if bytes_eq message b.wupb then (b.BReady, Sends (framed waves.B (b.atqb_of plan))) else b.b_other plan state message in
+    let other : b.BState × CardHear = if bytes_eq message b.wupb then (b.BReady, Sends (framed waves.B (b.atqb_of plan))) else b.b_other plan state message in
     one_of (not (same_wave wave waves.B)) old (state, Mute) other tt
     (one_of (bytes_eq message b.wupb) old (b.BReady, Sends (framed waves.B (b.atqb_of plan))) (b.b_other plan state message) tt (b_others old plan state message))
 
@@ -114,7 +114,7 @@ b_tame plan b.BReady wave bytes = b_opens b.BReady plan b.BReady wave (opened wa
 b_tame plan b.BProtocol wave bytes = either (same_wave wave waves.B) b.BProtocol
 
 -- the same of a state that is a part
-within : {S T : Type 0} (f : S → T) (old new : S) (reply : CardReply) → Tame old new reply → Tame (f old) (f new) reply
+within : {S T : Type 0} (f : S → T) (old new : S) (reply : CardHear) → Tame old new reply → Tame (f old) (f new) reply
 within f old new Mute t = tt
 within f old new (Sends answer) t = tt
 within f old new (Opens answer fsd) t = t

@@ -2,7 +2,7 @@
 use Rattle.std.proofs.Common.{◌≡◌, ℕ, ◌+◌, ◌<◌, List, [], ◌∷◌, length, drop, get_or, sym, ◌∙◌, arith}
 use Rattle.std.proofs.lemmas.List.{at_drop_more}
 use Rattle.arrayvec.specs.ArrayVec.{ArrayVec}
-use Rattle.ep_base.specs.Field.{next_presence}
+use Rattle.ep_base.specs.Cards.Field.{next_presence}
 use Rattle.rf_field.specs.Presences.{lists_of}
 
 none : ArrayVec ℕ

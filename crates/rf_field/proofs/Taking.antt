@@ -2,14 +2,14 @@
 use Rattle.std.proofs.Common.{◌≡◌, ℕ, Bool, true, false, not, if◌then◌else◌, List, [], ◌∷◌, Option, Some, None, refl, sym, ap, ◌∙◌, subst}
 use Rattle.arrayvec.specs.ArrayVec.{ArrayVec}
 use Rattle.ep_base.specs.declared.air.CardKind.{CardKind}
-use Rattle.ep_base.specs.Hearing.{Framed, wave_of_kind}
-use Rattle.ep_base.specs.Block.{Block}
-use Rattle.ep_base.specs.Spelling.{Read, Reads, Refuses, read_block}
-use Rattle.ep_base.specs.CardAnswer.{Image, card_answer}
-use Rattle.ep_base.specs.CardEnd.{Card, card_hears, answers, is_halted, records}
-use Rattle.ep_base.specs.CardEnd as Ends
-use Rattle.ep_base.specs.Wire.{Heeded, unmoved, by_commands, image_after, maybe_frame, answers_by, takes_read, takes_opened}
-use Rattle.ep_base.specs.Wire as plain
+use Rattle.ep_base.specs.Air.Heard.{Sent, wave_of_kind}
+use Rattle.ep_base.specs.Link.Block.{Block}
+use Rattle.ep_base.specs.Link.Spelling.{Read, Reads, Refuses, read_block}
+use Rattle.ep_base.specs.Cards.CardAnswer.{Image, card_answer}
+use Rattle.ep_base.specs.Link.CardEnd.{Card, card_hears, answers, is_halted, records}
+use Rattle.ep_base.specs.Link.CardEnd as Ends
+use Rattle.ep_base.specs.Link.Wire.{Heeded, unmoved, by_commands, image_after, maybe_frame, answers_by, takes_read, takes_opened}
+use Rattle.ep_base.specs.Link.Wire as plain
 use Rattle.block_card.specs.declared.held.CardNext.{CardNext}
 use Rattle.block_card.specs.declared.held.CardNext.TheVariants.{Mute, Send, Execute}
 use Rattle.block_card.specs.Held.{HeldCard, IsCard, card_of}
@@ -21,7 +21,7 @@ pub own_card : (e : HeldCard) → IsCard e (card_of e)
 own_card e = record { number = refl; last = refl; taken = refl; left = refl }
 
 -- the answer of the rules, where the end stands for its card
-as_answered : (old e : HeldCard) (image : Image) (a : Ends.Answer) (log : List (List ℕ)) (answer : Option Framed) → e.kind ≡ old.kind → e.fsd ≡ old.fsd → IsCard e a.card → a.card.log ≡ log → maybe_frame old.kind a.block ≡ answer → answers_by (party_by old image) a ≡ record { party = party_by e (image_after image log); executed = records image.number log; answer = answer }
+as_answered : (old e : HeldCard) (image : Image) (a : Ends.Answer) (log : List (List ℕ)) (answer : Option Sent) → e.kind ≡ old.kind → e.fsd ≡ old.fsd → IsCard e a.card → a.card.log ≡ log → maybe_frame old.kind a.block ≡ answer → answers_by (party_by old image) a ≡ record { party = party_by e (image_after image log); executed = records image.number log; answer = answer }
 as_answered old e image a log answer kind size is logged said =
     rw (is.number, is.last, is.taken, is.left, logged, said, kind, size) refl
 

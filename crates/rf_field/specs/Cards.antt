@@ -1,5 +1,5 @@
 -- What a card of the field stands for in plain data (this project's own).
-use Rattle.ep_base.specs.Field as plain
+use Rattle.ep_base.specs.Cards.Field as plain
 use Rattle.rf_field.specs.declared.placed.Placed.TheInside.{Inside}
 use Rattle.rf_field.specs.Outsides.{outside_of}
 use Rattle.rf_field.specs.Parties.{party_of}

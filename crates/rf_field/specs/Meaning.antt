@@ -1,6 +1,6 @@
 -- What the fates of frames stand for in plain data (this project's own).
 use Rattle.std.specs.Prelude.{◌≤◌, List, [], ◌∷◌, ◌++◌, replicate}
-use Rattle.ep_base.specs.Air.{Leg, Passes, Loses, Bursts, Leaves, IsLeg, Passage}
+use Rattle.ep_base.specs.Air.Fates.{Way as Leg, Passes, Loses, Bursts, Leaves, IsLeg, Fate as Passage}
 use Rattle.rf_field.specs.declared.fates.Way.{Way}
 use Rattle.rf_field.specs.declared.fates.Way.TheVariants as way
 use Rattle.rf_field.specs.declared.fates.Fate.{Fate}

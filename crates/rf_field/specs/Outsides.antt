@@ -1,5 +1,5 @@
 -- What a card's side outside the block protocol stands for in plain data (this project's own).
-use Rattle.ep_base.specs.Field as plain
+use Rattle.ep_base.specs.Cards.Field as plain
 use Rattle.rf_field.specs.declared.outside.Outside.{Outside}
 use Rattle.rf_field.specs.declared.outside.Outside.TheVariants.{A, B}
 

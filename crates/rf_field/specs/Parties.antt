@@ -1,9 +1,9 @@
 -- What a card in the block protocol stands for in plain data (this project's own).
 use Rattle.std.specs.Prelude.{ℕ, not, if◌then◌else◌, List, Option}
-use Rattle.ep_base.specs.CardEnd.{is_halted}
-use Rattle.ep_base.specs.CardAnswer.{Image}
-use Rattle.ep_base.specs.Wire as plain
-use Rattle.ep_base.specs.Wire.{Heeded, unmoved, takes_opened}
+use Rattle.ep_base.specs.Link.CardEnd.{is_halted}
+use Rattle.ep_base.specs.Cards.CardAnswer.{Image}
+use Rattle.ep_base.specs.Link.Wire as plain
+use Rattle.ep_base.specs.Link.Wire.{Heeded, unmoved, takes_opened}
 use Rattle.block_card.specs.Held.{HeldCard, held_card, card_of}
 use Rattle.rf_field.specs.declared.party.Party.{Party}
 

@@ -1,5 +1,5 @@
 -- What the cards of a field are made of, in plain data (this project's own).
-use Rattle.ep_base.specs.Field as plain
+use Rattle.ep_base.specs.Cards.Field as plain
 use Rattle.type_a.specs.Plan as TypeA
 use Rattle.type_b.specs.Card as TypeB
 use Rattle.rf_field.specs.declared.plans.CardPlan.{CardPlan}

@@ -1,6 +1,6 @@
 //! The cards of a field together.
 ghost use Rattle.std.specs.Prelude.{◌≡◌, map, All, IfOk};
-ghost use Rattle.ep_base.specs.Field.{all_reset, left_by, joined};
+ghost use Rattle.ep_base.specs.Cards.Field.{all_reset, left_by, joined};
 ghost use Rattle.rf_frame.specs.Meaning.{heard_of};
 ghost use Rattle.rf_field.specs.Airs.{with_answer};
 ghost use Rattle.rf_field.specs.Fields.{hear_all as all_heard};

@@ -1,9 +1,9 @@
 //! Several cards in a field, under fates.
 ghost use Rattle.std.specs.Prelude.{◌≡◌, All, map, if◌then◌else◌, is_ok, IsOk, IsErr, IfOk};
-ghost use Rattle.ep_base.specs.Air.{gone_by};
-ghost use Rattle.ep_base.specs.Causes.{HasCause};
-ghost use Rattle.ep_base.specs.Medium.{told};
-ghost use Rattle.ep_base.specs.Field as plain;
+ghost use Rattle.ep_base.specs.Air.Fates.{gone_by};
+ghost use Rattle.ep_base.specs.Streams.Causes.{HasCause};
+ghost use Rattle.ep_base.specs.Air.Medium.{told};
+ghost use Rattle.ep_base.specs.Cards.Field as plain;
 ghost use Rattle.rf_frame.specs.Meaning.{heard_of, maybe_heard};
 ghost use Rattle.rf_field.specs.Fields.{field_of, hears_by};
 ghost use Rattle.rf_field.specs.Meaning.{IsRun, leg_of, passage_of, passages};
@@ -126,8 +126,8 @@ impl Field {
 }
 
 impl Medium for Field {
-    ghost use Rattle.ep_base.specs.Field as plain;
-    ghost use Rattle.ep_base.specs.Medium.{told};
+    ghost use Rattle.ep_base.specs.Cards.Field as plain;
+    ghost use Rattle.ep_base.specs.Air.Medium.{told};
     ghost use Rattle.rf_field.specs.Fields.{field_of};
 
     ghost State = { plain.Field };

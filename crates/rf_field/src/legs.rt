@@ -1,8 +1,8 @@
 //! What becomes of a frame on its way down to the cards, and of what comes back.
 ghost use Rattle.std.specs.Prelude.{◌≡◌};
 ghost use Rattle.std.specs.Option.{option_map};
-ghost use Rattle.ep_base.specs.Frame.{is_bare as bare};
-ghost use Rattle.ep_base.specs.Wire as plain;
+ghost use Rattle.ep_base.specs.Air.Frame.{is_bare as bare};
+ghost use Rattle.ep_base.specs.Link.Wire as plain;
 ghost use Rattle.rf_frame.specs.Meaning.{heard_of};
 ghost use Rattle.rf_field.specs.Meaning.{leg_of};
 

@@ -1,6 +1,6 @@
 //! A card's side outside the block protocol.
 ghost use Rattle.std.specs.Prelude.{◌≡◌};
-ghost use Rattle.ep_base.specs.Field.{outside_after, outside_reply, outside_reset, outside_halted};
+ghost use Rattle.ep_base.specs.Cards.Field.{outside_after, outside_reply, outside_reset, outside_halted};
 ghost use Rattle.rf_frame.specs.Meaning.{card_hear_of};
 ghost use Rattle.rf_field.specs.Outsides.{outside_of};
 

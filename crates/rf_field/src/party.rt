@@ -1,11 +1,11 @@
 //! A card in the block protocol.
 ghost use Rattle.std.specs.Prelude.{◌≡◌, ◌<◌, ◌≤◌, ◌++◌, length};
 ghost use Rattle.std.specs.Option.{option_copied, option_map};
-ghost use Rattle.ep_base.specs.CardAnswer.{deselected};
-ghost use Rattle.ep_base.specs.CardEnd.{is_halted, fresh_card};
-ghost use Rattle.ep_base.specs.Field.{opens_link};
-ghost use Rattle.ep_base.specs.Hearing.{wave_of_kind};
-ghost use Rattle.ep_base.specs.Wire.{takes_frame};
+ghost use Rattle.ep_base.specs.Cards.CardAnswer.{deselected};
+ghost use Rattle.ep_base.specs.Link.CardEnd.{is_halted, fresh_card};
+ghost use Rattle.ep_base.specs.Cards.Field.{opens_link};
+ghost use Rattle.ep_base.specs.Air.Heard.{wave_of_kind};
+ghost use Rattle.ep_base.specs.Link.Wire.{takes_frame};
 ghost use Rattle.rf_field.specs.Parties.{party_of, takes_awake};
 
 use block_card::{CardEnd, CardNext};

@@ -1,8 +1,8 @@
 //! A card of the field.
 ghost use Rattle.std.specs.Prelude.{◌≡◌, ◌<◌, ◌++◌, length};
 ghost use Rattle.std.specs.Prelude.{false};
-ghost use Rattle.ep_base.specs.Field.{hears_frame, by_link, one_hears, placed_reset};
-ghost use Rattle.ep_base.specs.Wire.{takes_frame};
+ghost use Rattle.ep_base.specs.Cards.Field.{hears_frame, by_link, one_hears, placed_reset};
+ghost use Rattle.ep_base.specs.Link.Wire.{takes_frame};
 ghost use Rattle.rf_field.specs.Plans.{PlanFits, placed_plan};
 
 use crate::outside::Outside;
@@ -24,7 +24,7 @@ pub(crate) struct Placed {
 }
 
 impl Model for Placed {
-    ghost use Rattle.ep_base.specs.Field.{Placed};
+    ghost use Rattle.ep_base.specs.Cards.Field.{Placed};
     ghost use Rattle.rf_field.specs.Cards.{placed_of};
 
     ghost Value = { Placed };

@@ -1,6 +1,6 @@
 //! Which cards are present in the rounds to come.
 ghost use Rattle.std.specs.Prelude.{◌≡◌};
-ghost use Rattle.ep_base.specs.Field.{is_present, names, next_presence};
+ghost use Rattle.ep_base.specs.Cards.Field.{is_present, names, next_presence};
 ghost use Rattle.rf_field.specs.Presences.{lists_of};
 
 use ep_base::Buf;

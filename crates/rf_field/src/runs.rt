@@ -1,6 +1,6 @@
 //! The fates that are left of a list.
 ghost use Rattle.std.specs.Prelude.{◌≡◌, All};
-ghost use Rattle.ep_base.specs.Air.{next_fate, fates_after};
+ghost use Rattle.ep_base.specs.Air.Fates.{next_fate, fates_after};
 ghost use Rattle.rf_field.specs.Meaning.{IsRun, passage_of, passages};
 
 use crate::fates::{Fate, FateRun, Way};
@@ -23,7 +23,7 @@ pub(crate) struct Fates {
 
 impl Model for Fates {
     ghost use Rattle.std.specs.Prelude.{List, ◌++◌, replicate, drop, All};
-    ghost use Rattle.ep_base.specs.Air.{Passage};
+    ghost use Rattle.ep_base.specs.Air.Fates.{Fate as Passage};
     ghost use Rattle.rf_field.specs.Meaning.{IsRun, clean_passage, passages};
 
     ghost Value = { List Passage };

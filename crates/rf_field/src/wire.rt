@@ -1,8 +1,8 @@
 //! One card in an open link, under fates.
 ghost use Rattle.std.specs.Prelude.{◌≡◌, ℕ, ◌≤◌, ◌++◌, All, is_ok, IsOk, IsErr, IfOk};
-ghost use Rattle.ep_base.specs.Causes.{HasCause};
-ghost use Rattle.ep_base.specs.Medium.{told};
-ghost use Rattle.ep_base.specs.Wire as plain;
+ghost use Rattle.ep_base.specs.Streams.Causes.{HasCause};
+ghost use Rattle.ep_base.specs.Air.Medium.{told};
+ghost use Rattle.ep_base.specs.Link.Wire as plain;
 ghost use Rattle.rf_frame.specs.Meaning.{maybe_heard};
 ghost use Rattle.rf_field.specs.Meaning.{IsRun, leg_of, passages};
 ghost use Rattle.rf_field.specs.Wires.{wire_of, heeds_by};
@@ -89,8 +89,8 @@ impl Wire {
 }
 
 impl Medium for Wire {
-    ghost use Rattle.ep_base.specs.Wire as plain;
-    ghost use Rattle.ep_base.specs.Medium.{told};
+    ghost use Rattle.ep_base.specs.Link.Wire as plain;
+    ghost use Rattle.ep_base.specs.Air.Medium.{told};
     ghost use Rattle.rf_field.specs.Wires.{wire_of};
 
     ghost State = { plain.Wire };

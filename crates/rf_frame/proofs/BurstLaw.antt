@@ -7,8 +7,8 @@ use Rattle.std.proofs.lemmas.Bool.{cases_lt, not-true, eqb-false, and_parts, fal
 use Rattle.std.proofs.lemmas.Slice.Eq.{bytes_eq-Decides}
 use Rattle.std.proofs.lemmas.List.Sums.{fold-append}
 use Rattle.std.proofs.lemmas.Grind.{flat_map-append}
-use Rattle.ep_base.specs.Check.{register_after, register_step, sent_bits, low_bits, crc_a, crc_b}
-use Rattle.ep_base.specs.Frame.{inverted, burst_bits, bit_count, check_of, check_bytes, ends_in_check, is_good, after_burst, hits, HasCheck}
+use Rattle.ep_base.specs.Air.Check.{register_after, register_step, sent_bits, low_bits, crc_a, crc_b}
+use Rattle.ep_base.specs.Air.Frame.{inverted, burst_bits, bit_count, check_of, check_bytes, ends_in_check, is_good, after_burst, hits, HasCheck}
 use Rattle.ep_base.specs.declared.air.Wave.{Wave}
 use Rattle.ep_base.specs.declared.air.Wave.TheVariants.{AShort, ABare, A, B}
 use Rattle.rf_frame.proofs.Register.{number, after_zeros, after_zeros-xor, after_zeros-add, after_zeros-shifted, after_zeros-zero, after_zeros_only_zero, register_after-sent_bits, register_after-fits, xor_cancel}

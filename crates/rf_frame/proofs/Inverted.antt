@@ -6,7 +6,7 @@ use Rattle.std.specs.Int.Bits.{xor_zero_r}
 use Rattle.std.proofs.lemmas.Nat.{mod-pow-add, shl-shr, one_shl, pow_below, shl_whole}
 use Rattle.std.specs.List.{refill}
 use borrow.Rule.Slice.PartMut.{put_mid}
-use Rattle.ep_base.specs.Frame.{inverted, burst_bits, bit_count}
+use Rattle.ep_base.specs.Air.Frame.{inverted, burst_bits, bit_count}
 use Rattle.ep_base.specs.declared.air.Wave.{Wave}
 use Rattle.ep_base.specs.declared.air.Wave.TheVariants.{AShort, ABare, A, B}
 

@@ -4,7 +4,7 @@ use Rattle.std.proofs.Math.Seq.{take-append_seam, drop-append_seam}
 use Rattle.std.proofs.lemmas.Bool.{eqb-true, not-false}
 use Rattle.ep_base.specs.declared.air.Wave.{Wave}
 use Rattle.ep_base.specs.declared.air.Wave.TheVariants.{AShort, ABare, A, B}
-use Rattle.ep_base.specs.Frame.{check_of, check_bytes, ends_in_check, sealed, opened, burst_bits, after_burst, inverted, hits}
+use Rattle.ep_base.specs.Air.Frame.{check_of, check_bytes, ends_in_check, sealed, opened, burst_bits, after_burst, inverted, hits}
 use Rattle.rf_frame.proofs.Inverted.{inverted-zero}
 
 pub same_bytes : (xs : List ℕ) → bytes_eq xs xs ≡ true

@@ -7,8 +7,8 @@ use Rattle.std.proofs.Math.Nat.{mod-le}
 use Rattle.std.proofs.lemmas.Nat.{mod-pow-add, shr_split}
 use Rattle.std.proofs.lemmas.Nat.Bits.{bit_at_xor, bit_at_cat_low, bit_at_cat_high, bit_at_above, bit_at-zero, bit_at-trailing_zeros}
 use Rattle.std.proofs.lemmas.Bool.{cases_lt, lt-leb, and_right, not-true, eqb-false}
-use Rattle.ep_base.specs.Check.{low_bits, sent_bits}
-use Rattle.ep_base.specs.Frame.{inverted, burst_bits, burst_bit, bit_count, after_burst, hits, FallsOn, InvertsEach}
+use Rattle.ep_base.specs.Air.Check.{low_bits, sent_bits}
+use Rattle.ep_base.specs.Air.Frame.{inverted, burst_bits, burst_bit, bit_count, after_burst, hits, FallsOn, InvertsEach}
 use Rattle.ep_base.specs.declared.air.Wave.{Wave}
 use Rattle.rf_frame.proofs.Register.{number, get_or-low_bits}
 use Rattle.rf_frame.proofs.Inverted.{length-inverted, bit_count-le, burst_bits_within, burst_bits_past}

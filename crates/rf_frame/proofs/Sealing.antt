@@ -1,7 +1,7 @@
 -- Frames that end in their check.
 use Rattle.std.proofs.Common.{◌≡◌, ℕ, ◌-◌, ◌/◌, ◌%◌, ◌<◌, ◌≤◌, ◌&&◌, Bool, true, false, nat_eq, List, [], ◌∷◌, length, take, drop, get_or, sym, ap, ◌∙◌, arith, le-leb, leb-true, length-drop, bytes_eq, ◌⊎◌, inl, inr, refl}
 use Rattle.std.proofs.lemmas.Bool.{lt-leb, and_parts}
-use Rattle.ep_base.specs.Frame.{check_of, check_bytes, ends_in_check, is_good}
+use Rattle.ep_base.specs.Air.Frame.{check_of, check_bytes, ends_in_check, is_good}
 use Rattle.ep_base.specs.declared.air.Wave.{Wave}
 use Rattle.ep_base.specs.declared.air.Wave.TheVariants.{A, B}
 

@@ -1,7 +1,7 @@
 -- The table's words.
 use Rattle.std.proofs.Common.{◌≡◌, ℕ, zero, suc, ◌+◌, ◌<◌, ◌&&◌, ◌^◌, Bool, true, eqb, List, [], ◌∷◌, length, get_or, refl, sym, ap, ◌∙◌, arith, eqb-true, add-zero, ◌*◌, ◌/◌, ◌%◌, bit_xor, bit_and, pow_pos, mod-lt, mod-eq_of_lt}
 use Rattle.std.proofs.lemmas.Bool.{and_parts}
-use Rattle.ep_base.specs.Check.{register_after, register_step, low_bits}
+use Rattle.ep_base.specs.Air.Check.{register_after, register_step, low_bits}
 use Rattle.std.specs.Int.Bits.{xor_assoc, xor_lt, xor_shifted, and_mask}
 use Rattle.std.proofs.lemmas.Nat.{shr_split}
 use Rattle.rf_frame.proofs.Register.{after_zeros, after_zeros-xor, after_zeros-shifted, register_after-byte}

@@ -1,7 +1,7 @@
 -- What holds of all frames and bursts.
 use Rattle.std.specs.Prelude.{◌≡◌, ℕ, ◌<◌, ◌^◌, ◌↔◌, List, length, Some, IsTrue, IsFalse}
 use Rattle.ep_base.specs.declared.air.Wave.{Wave}
-use Rattle.ep_base.specs.Frame.{is_good, sealed, opened, after_burst, hits, HasCheck, FallsOn}
+use Rattle.ep_base.specs.Air.Frame.{is_good, sealed, opened, after_burst, hits, HasCheck, FallsOn}
 
 -- A burst inverts a bit just where a set bit of its mask falls on a bit of the frame.
 abbrev pub HitsWhereItFalls : Type 0

@@ -1,8 +1,8 @@
 -- The medium of this crate's tests: it answers from a list, and fails at listed calls.
 use Rattle.std.specs.Prelude.{ℕ, ◌+◌, ◌-◌, ◌^◌, ◌==◌, Bool, true, false, List, Option, Some, None, slice_get, min, if◌then◌else◌}
 use Rattle.std.specs.List.{list_any}
-use Rattle.ep_base.specs.Hearing.{Hearing, Silence}
-use Rattle.ep_base.specs.Medium.{ToldMedium}
+use Rattle.ep_base.specs.Air.Heard.{Heard as Hearing, Silence}
+use Rattle.ep_base.specs.Air.Medium.{ToldMedium}
 use Rattle.rf_frame.specs.declared.air.Heard.{Heard}
 use Rattle.rf_frame.specs.Meaning.{heard_of}
 

@@ -2,7 +2,7 @@
 ghost use Rattle.std.specs.Prelude.{◌≡◌, false, []};
 ghost use Rattle.ep_base.specs.declared.air.Wave.TheVariants as waves;
 ghost use Rattle.rf_frame.specs.declared.air.Heard.TheVariants as variants;
-ghost use Rattle.ep_base.specs.Hearing.{is_silent as silent};
+ghost use Rattle.ep_base.specs.Air.Heard.{is_silent as silent};
 ghost use Rattle.rf_frame.specs.Meaning.{heard_of};
 
 use crate::{copy_frame, refill};
@@ -117,7 +117,7 @@ pub struct Ask {
 }
 
 impl Model for Ask {
-    ghost use Rattle.ep_base.specs.Hearing.{Asked};
+    ghost use Rattle.ep_base.specs.Air.Heard.{Ask as Asked};
 
     ghost Value = { Asked };
 
@@ -162,7 +162,7 @@ pub struct Sent {
 }
 
 impl Model for Sent {
-    ghost use Rattle.ep_base.specs.Hearing.{Framed};
+    ghost use Rattle.ep_base.specs.Air.Heard.{Sent as Framed};
 
     ghost Value = { Framed };
 

@@ -1,6 +1,6 @@
 //! Bursts: runs of at most sixteen bits of a frame that are inverted on the way.
 ghost use Rattle.std.specs.Prelude.{◌≡◌, ◌≤◌, ◌<◌, ◌%◌, ◌^◌, IsTrue, IsFalse, ◌↔◌, length};
-ghost use Rattle.ep_base.specs.Frame.{is_good, bit_count, inverted, after_burst, hits, HasCheck, FallsOn, InvertsEach};
+ghost use Rattle.ep_base.specs.Air.Frame.{is_good, bit_count, inverted, after_burst, hits, HasCheck, FallsOn, InvertsEach};
 
 use crate::copy_frame;
 use ep_base::{FRAME, FrameBuf, Wave};

@@ -21,7 +21,7 @@ pub struct Activated {
 }
 
 impl Model for Activated {
-    ghost use Rattle.ep_base.specs.Hearing.{Activated};
+    ghost use Rattle.ep_base.specs.Air.Heard.{Activated};
 
     ghost Value = { Activated };
 

@@ -1,7 +1,7 @@
 //! The check of a message, a byte a step by a table (ISO/IEC 14443-3).
 ghost use Rattle.std.specs.Prelude.{◌≡◌};
-ghost use Rattle.ep_base.specs.Check.{register_after, low_bits, sent_bits};
-ghost use Rattle.ep_base.specs.Frame.{check_of};
+ghost use Rattle.ep_base.specs.Air.Check.{register_after, low_bits, sent_bits};
+ghost use Rattle.ep_base.specs.Air.Frame.{check_of};
 
 use crate::table::word;
 use ep_base::Wave;

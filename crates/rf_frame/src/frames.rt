@@ -2,7 +2,7 @@
 ghost use Rattle.std.specs.Prelude.{◌≡◌, ◌≤◌, length};
 ghost use Rattle.std.specs.Option.{option_copied};
 ghost use Rattle.arrayvec.specs.ArrayVec.{array_vec_len};
-ghost use Rattle.ep_base.specs.Frame.{is_good, ends_in_check, sealed, opened};
+ghost use Rattle.ep_base.specs.Air.Frame.{is_good, ends_in_check, sealed, opened};
 
 use crate::check;
 use ep_base::{FrameBuf, MESSAGE, Wave};

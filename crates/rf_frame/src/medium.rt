@@ -1,7 +1,7 @@
 //! The medium between a reader and its cards.
 ghost use Rattle.std.specs.Prelude.{ℕ, is_ok, IsErr};
-ghost use Rattle.ep_base.specs.Causes.{HasCause};
-ghost use Rattle.ep_base.specs.Medium.{MediumSteps, Exchanges};
+ghost use Rattle.ep_base.specs.Streams.Causes.{HasCause};
+ghost use Rattle.ep_base.specs.Air.Medium.{MediumSteps, Exchanges};
 ghost use Rattle.rf_frame.specs.Meaning.{maybe_heard, heard_into};
 
 use crate::{Ask, Heard};

@@ -1,7 +1,7 @@
 //! Messages in frames: what is sent with its check, and what an awaited answer says.
 ghost use Rattle.std.specs.Prelude.{◌≡◌, ◌≤◌, length};
-ghost use Rattle.ep_base.specs.Frame.{sealed};
-ghost use Rattle.ep_base.specs.Hearing.{asks, framed, awaited};
+ghost use Rattle.ep_base.specs.Air.Frame.{sealed};
+ghost use Rattle.ep_base.specs.Air.Heard.{asks, framed, awaited};
 ghost use Rattle.rf_frame.specs.Meaning.{heard_of, awaited_of};
 
 use crate::{Ask, Heard, RoundEnd, Sent, open_frame, refill, seal};

@@ -1,6 +1,6 @@
 //! The words by which the check of a message takes a byte at a time.
 ghost use Rattle.std.specs.Prelude.{◌≡◌};
-ghost use Rattle.ep_base.specs.Check.{register_after, low_bits};
+ghost use Rattle.ep_base.specs.Air.Check.{register_after, low_bits};
 
 /// Word i is the register of ISO/IEC 14443-3 after the eight bits of i, from 0.
 static TABLE: [u16; 256] = [

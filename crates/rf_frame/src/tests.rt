@@ -108,7 +108,7 @@ struct ListMedium {
 }
 
 impl Medium for ListMedium {
-    ghost use Rattle.ep_base.specs.Medium.{told};
+    ghost use Rattle.ep_base.specs.Air.Medium.{told};
     ghost use Rattle.rf_frame.specs.Listed.{Listed, listed};
 
     ghost State = { Listed };
@@ -149,7 +149,7 @@ struct Untold;
 
 impl Medium for Untold {
     ghost use Rattle.std.specs.Prelude.{ℕ};
-    ghost use Rattle.ep_base.specs.Medium.{untold};
+    ghost use Rattle.ep_base.specs.Air.Medium.{untold};
 
     ghost State = { Unit {0} };
 

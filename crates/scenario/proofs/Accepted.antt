@@ -4,7 +4,7 @@ use Rattle.std.specs.Prelude.{⊤}
 use Rattle.std.specs.Option.{ForSome}
 use Rattle.std.proofs.lemmas.List.Elements.{All-nil}
 use Rattle.toml.specs.Data.{Members}
-use Rattle.ep_base.specs.TraceLine.{Traced}
+use Rattle.ep_claim.specs.Text.TraceLine.{TraceLine}
 use Rattle.doc_table.specs.declared.list.ElementKind.TheVariants as elements
 use Rattle.doc_table.specs.Read.{Place, place_of, table_of, required, defaulted, integer_in, list_of}
 use Rattle.doc_table.proofs.Accepted.{Accepts, IsListOf, after, accepted_integer, accepted_required, accepted_defaulted, accepted_optional, accepted_list}
@@ -76,13 +76,13 @@ accepted_line : Accepts line (λ _. ⊤)
 accepted_line = record { is = λ path d x e. tt }
 
 -- At most 65536 trace lines.
-abbrev IsShort : List Traced → Type 0
+abbrev IsShort : List TraceLine → Type 0
 IsShort lines = length lines ≤ 65536
 
 accepted_lines : Accepts (list_of elements.Text 0 65536 line) IsShort
 accepted_lines = record { is = λ path d xs e. ((accepted_list elements.Text 0 65536 line (λ _. ⊤) accepted_line).is path d xs e).most }
 
-accepted_trace : (root : Place) (trace : Option (List Traced)) → trace_at root ≡ Ok trace → ForSome trace IsShort
+accepted_trace : (root : Place) (trace : Option (List TraceLine)) → trace_at root ≡ Ok trace → ForSome trace IsShort
 accepted_trace root trace e = accepted_optional _ IsShort (codes "trace") root trace accepted_lines e
 
 root_is : (root : Place) (p : Plan) → plan_at root ≡ Ok p → IsAccepted p

@@ -4,7 +4,7 @@ use Rattle.std.specs.Prelude.{slice_index}
 use Rattle.std.proofs.lemmas.Bool.Decides.{nat_tests}
 use Rattle.hex.specs.Hex.{decode_of}
 use Rattle.hex.proofs.HexLemmas.{decode_of-ok}
-use Rattle.ep_base.specs.Apdu.{is_command}
+use Rattle.ep_base.specs.Cards.Apdu.{is_command}
 use Rattle.doc_table.specs.Read.{is_within, sized, spelled}
 use Rattle.doc_table.proofs.Texts.{spelled_within}
 

@@ -2,7 +2,7 @@
 use Rattle.std.proofs.Common.{◌≡◌, ℕ, ◌≤◌, List, length, map, codes, Option, Result, Ok, Err, refl, sym, subst}
 use Rattle.std.specs.Prelude.{IfOk}
 use Rattle.std.proofs.lemmas.List.{length-map}
-use Rattle.ep_base.specs.TraceLine.{Traced}
+use Rattle.ep_claim.specs.Text.TraceLine.{TraceLine}
 use Rattle.doc_table.specs.Fault.{Fault}
 use Rattle.doc_table.specs.declared.fault.TableEnd.{TableEnd}
 use Rattle.doc_table.specs.declared.fault.TableEnd.TheVariants.{NoMemory}
@@ -14,7 +14,7 @@ use Rattle.scenario.specs.Plan.{Plan, lanes_at, plan_at}
 use Rattle.scenario.specs.Turns.{turns_at}
 
 -- A plan with a trace that was read after it.
-abbrev traced : Plan → Option (List Traced) → Result Plan Fault
+abbrev traced : Plan → Option (List TraceLine) → Result Plan Fault
 traced p trace = Ok (record { config = p.config; fsdi = p.fsdi; turns = p.turns; lanes = p.lanes; trace = trace })
 
 -- A chain goes on after a step that gave a value.
@@ -48,7 +48,7 @@ whole_root root n p b is = up_to_trace root n p (Ok p) b (onward (trace_at root)
 failed : (root : Place) (n : ℕ) (p : Plan) (f : Fault) → Before root n p → trace_at root ≡ Err f → plan_at root ≡ Err f
 failed root n p f b is =
     up_to_trace root n p (Err f) b
-    (subst (λ (r : Result (Option (List Traced)) Fault). (r >>= traced p) ≡ Err f) (sym is) refl)
+    (subst (λ (r : Result (Option (List TraceLine)) Fault). (r >>= traced p) ≡ Err f) (sym is) refl)
 
 -- The root whose trace has a fault.
 pub bad_trace : (root : Place) (n : ℕ) (p : Plan) (e : TableEnd) → Before root n p → FailsSo e (trace_at root) → FailsSo e (plan_at root)

@@ -2,9 +2,9 @@
 use Rattle.std.proofs.Common.{◌≡◌, ◌≤◌, List, [], ◌∷◌, length, codes, true, Ok, subst, arith}
 use Rattle.std.specs.Prelude.{All}
 use Rattle.std.proofs.lemmas.List.Elements.{All-nil, All-head, All-tail}
-use Rattle.ep_base.specs.Apdu.{is_command}
-use Rattle.ep_base.specs.Kernel.{Step, Script, no_verdict}
-use Rattle.ep_base.specs.KernelCommands.{StepsSend, ScriptsSend}
+use Rattle.ep_base.specs.Cards.Apdu.{is_command}
+use Rattle.ep_rules.specs.EntryPoint.Kernel.{Step, Script, no_verdict}
+use Rattle.ep_rules.specs.EntryPoint.KernelCommands.{StepsSend, ScriptsSend}
 use Rattle.doc_table.specs.declared.list.ElementKind.TheVariants as elements
 use Rattle.doc_table.specs.Read.{Place, list_of, integer_in, byte_text, bytes_that, table_of, required, defaulted}
 use Rattle.doc_table.proofs.Accepted.{Accepts, after, accepted_bytes_that, accepted_required, accepted_defaulted, accepted_list}

@@ -1,10 +1,10 @@
 -- What holds of a document that is accepted (this project's profile).
 use Rattle.std.specs.Prelude.{◌≤◌, All, List, length}
 use Rattle.std.specs.Option.{ForSome}
-use Rattle.ep_base.specs.Air.{ArePassages}
-use Rattle.ep_base.specs.Configuration.{AreSettings}
-use Rattle.law_round.specs.Lawful.{ArePlaced, AreApart, names}
-use Rattle.law_radio.specs.OverRadio.{AreDistinct, numbers}
+use Rattle.ep_base.specs.Air.Fates.{ArePassages}
+use Rattle.ep_rules.specs.EntryPoint.Configuration.{AreSettings}
+use Rattle.ep_base.specs.Cards.Lawful.{ArePlaced, AreApart, names}
+use Rattle.ep_base.specs.Cards.Numbers.{AreDistinct, numbers}
 use Rattle.card_table.specs.Placing.{placed_from}
 use Rattle.fate_table.specs.Presence.{ArePresences}
 use Rattle.scenario.specs.Plan.{Transaction, Plan}

@@ -9,9 +9,9 @@ use Rattle.ep_base.specs.declared.outcome.OutcomeKind.{OutcomeKind}
 use Rattle.ep_base.specs.declared.outcome.OutcomeKind.TheVariants as outcomes
 use Rattle.ep_base.specs.declared.outcome.Message.{Message}
 use Rattle.ep_base.specs.declared.outcome.Message.TheVariants as messages
-use Rattle.ep_base.specs.Apdu.{same_bytes}
-use Rattle.ep_base.specs.ReportLine.{kind_word, message_row}
-use Rattle.ep_base.specs.Said.{Verdict}
+use Rattle.ep_base.specs.Cards.Apdu.{same_bytes}
+use Rattle.ep_claim.specs.Text.ReportLine.{kind_word, message_row}
+use Rattle.ep_rules.specs.EntryPoint.Event.{Verdict}
 use Rattle.doc_table.specs.Read.{◌>>=◌, Reader, of_kind, allowed}
 
 -- The kinds of outcome (EMV Book B).

@@ -2,10 +2,10 @@
 use Rattle.std.specs.Prelude.{codes, ℕ, List, [], ◌∷◌, length, Result, Ok}
 use Rattle.std.specs.declared.option.Option.{Option}
 use Rattle.toml.specs.Data.{Members}
-use Rattle.ep_base.specs.Air.{Passage}
-use Rattle.ep_base.specs.Configuration.{Settings}
-use Rattle.ep_base.specs.Kernel.{Script}
-use Rattle.ep_base.specs.TraceLine.{Traced}
+use Rattle.ep_base.specs.Air.Fates.{Fate}
+use Rattle.ep_rules.specs.EntryPoint.Configuration.{Config}
+use Rattle.ep_rules.specs.EntryPoint.Kernel.{Script}
+use Rattle.ep_claim.specs.Text.TraceLine.{TraceLine}
 use Rattle.doc_table.specs.Fault.{Fault}
 use Rattle.doc_table.specs.declared.list.ElementKind.TheVariants as elements
 use Rattle.doc_table.specs.Read.{◌>>=◌, Reader, Place, place_of, table_of, required, defaulted, integer_in, list_of}
@@ -24,17 +24,17 @@ pub record Transaction : Type 0 where
   pub amount : ℕ
   pub cards : List Card
   pub presence : List (List ℕ)
-  pub fates : List Passage
+  pub fates : List Fate
   pub scripts : List Script
 
 -- A document: the configuration, the reader's frame size code, which lanes make the first exchanges, each lane's transactions, and the trace of an
 -- earlier run, where there is one (this project's own).
 pub record Plan : Type 0 where
-  pub config : Settings
+  pub config : Config
   pub fsdi : ℕ
   pub turns : List ℕ
   pub lanes : List (List Transaction)
-  pub trace : Option (List Traced)
+  pub trace : Option (List TraceLine)
 
 -- The keys of a transaction, in the order in which they are checked (this project's own).
 abbrev pub transaction_keys : List (List ℕ)

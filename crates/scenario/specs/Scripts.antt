@@ -1,8 +1,8 @@
 -- Scripts of kernels, and their tables (this project's own).
 use Rattle.std.specs.Prelude.{codes, ℕ, ◌+◌, ◌*◌, ◌≤◌, List, [], ◌∷◌, length, slice_index, All, None, Result, Ok}
-use Rattle.ep_base.specs.Apdu.{is_command}
-use Rattle.ep_base.specs.Kernel.{Step, Script, no_verdict}
-use Rattle.ep_base.specs.KernelCommands.{ScriptedSends}
+use Rattle.ep_base.specs.Cards.Apdu.{is_command}
+use Rattle.ep_rules.specs.EntryPoint.Kernel.{Step, Script, no_verdict}
+use Rattle.ep_rules.specs.EntryPoint.KernelCommands.{ScriptedSends}
 use Rattle.doc_table.specs.Fault.{Fault}
 use Rattle.doc_table.specs.declared.list.ElementKind.TheVariants as elements
 use Rattle.doc_table.specs.Read.{◌>>=◌, Reader, Place, table_of, required, defaulted, integer_in, byte_text, bytes_that, list_of}

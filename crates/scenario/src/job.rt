@@ -1,8 +1,8 @@
 //! Transactions that are about to begin, with all the memory that they take.
 ghost use Rattle.std.specs.Prelude.{◌≡◌, ◌+◌, ◌≤◌, length, map, IfOk};
-ghost use Rattle.ep_base.specs.Configuration.{count_of};
-ghost use Rattle.ep_base.specs.Kernel.{steps_left};
-ghost use Rattle.law_run.specs.Bounds.{log_bound};
+ghost use Rattle.ep_rules.specs.EntryPoint.Configuration.{count_of};
+ghost use Rattle.ep_rules.specs.EntryPoint.Kernel.{steps_left};
+ghost use Rattle.ep_rules.specs.EntryPoint.Bounds.{log_bound};
 ghost use Rattle.scenario.specs.Scene.{work_of};
 ghost use Rattle.scenario.specs.Scripts.{AreScripts};
 

@@ -16,7 +16,7 @@ use toml::Value;
 pub struct OutcomeText;
 
 impl Read for OutcomeText {
-    ghost use Rattle.ep_base.specs.Said.{Verdict};
+    ghost use Rattle.ep_rules.specs.EntryPoint.Event.{Verdict};
 
     type Out = Outcome;
 

@@ -2,7 +2,7 @@
 ghost use Rattle.std.specs.Prelude.{◌≡◌, ◌+◌, ◌*◌, ◌≤◌, length, option_map};
 ghost use Rattle.toml.specs.View.{view};
 ghost use Rattle.hex.specs.Hex.{decode_of};
-ghost use Rattle.ep_base.specs.Apdu.{is_command};
+ghost use Rattle.ep_base.specs.Cards.Apdu.{is_command};
 ghost use Rattle.doc_table.specs.Read.{Gives, GivesIfRoom, bytes_that, spelled};
 ghost use Rattle.doc_table.specs.Section.{place};
 ghost use Rattle.scenario.specs.Scripts.{step_at, script_at};
@@ -64,7 +64,7 @@ fn command_spelled(text: &str) -> Option<Command>
 pub struct StepTable;
 
 impl Read for StepTable {
-    ghost use Rattle.ep_base.specs.Kernel.{Step as StepData};
+    ghost use Rattle.ep_rules.specs.EntryPoint.Kernel.{Step as StepData};
     ghost use Rattle.scenario.specs.Scripts.{step};
 
     type Out = Step;
@@ -108,7 +108,7 @@ const END: Outcome = Outcome {
 pub struct ScriptTable;
 
 impl Read for ScriptTable {
-    ghost use Rattle.ep_base.specs.Kernel.{Script as ScriptData};
+    ghost use Rattle.ep_rules.specs.EntryPoint.Kernel.{Script as ScriptData};
     ghost use Rattle.scenario.specs.Scripts.{script};
 
     type Out = Script;

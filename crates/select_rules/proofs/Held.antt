@@ -3,11 +3,11 @@ use Rattle.std.proofs.Common.{◌≡◌, ℕ, zero, suc, ◌+◌, Bool, List, []
 use Rattle.std.proofs.lemmas.Option.{slice_get-map}
 use Rattle.std.specs.declared.option.Option.{Option}
 use Rattle.std.specs.Option.{option_map}
-use Rattle.ep_base.specs.Apdu.{select}
-use Rattle.ep_base.specs.Arena.{Object, value_in}
-use Rattle.ep_base.specs.PreProcessing.{Ready}
-use Rattle.ep_base.specs.Directory.{Entry, entry_held, held_from, entries_held}
-use Rattle.ep_base.specs.Candidates.{Candidate, extended_name, final_command}
+use Rattle.ep_base.specs.Cards.Apdu.{select}
+use Rattle.ep_base.specs.Objects.Arena.{Object, value_in}
+use Rattle.ep_rules.specs.EntryPoint.PreProcessing.{Ready}
+use Rattle.ep_base.specs.Objects.Directory.{Entry, entry_held, held_from, entries_held}
+use Rattle.ep_rules.specs.EntryPoint.Candidates.{Candidate, extended_name, final_command}
 use Rattle.select_rules.specs.declared.pair.Pair.{Pair}
 use Rattle.select_rules.specs.Left.{place_of, IsThere, StandsFor}
 use Rattle.select_rules.specs.Offer.{name_of}

@@ -5,10 +5,10 @@ use Rattle.std.proofs.lemmas.List.{map-append}
 use Rattle.std.proofs.lemmas.List.Sums.{sum_by-cons}
 use Rattle.std.specs.declared.option.Option.{Option}
 use Rattle.std.specs.List.{AllByRecursion, count_by}
-use Rattle.ep_base.specs.Arena.{Object}
-use Rattle.ep_base.specs.PreProcessing.{Ready, is_allowed}
-use Rattle.ep_base.specs.Directory.{Entry, is_name, is_named, entry_held, held_from}
-use Rattle.ep_base.specs.Candidates.{Candidate, candidate_of, bytes_or_none, fits, fits_name, pairs_of, pairs_from, put_in, in_order, is_before, candidates}
+use Rattle.ep_base.specs.Objects.Arena.{Object}
+use Rattle.ep_rules.specs.EntryPoint.PreProcessing.{Ready, is_allowed}
+use Rattle.ep_base.specs.Objects.Directory.{Entry, is_name, is_named, entry_held, held_from}
+use Rattle.ep_rules.specs.EntryPoint.Candidates.{Candidate, candidate_of, bytes_or_none, fits, fits_name, pairs_of, pairs_from, put_in, in_order, is_before, candidates}
 use Rattle.select_rules.specs.declared.pair.Ranked.{Ranked}
 use Rattle.select_rules.specs.Left.{IsThere}
 use Rattle.select_rules.specs.Order.{ranked_of}

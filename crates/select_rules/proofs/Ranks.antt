@@ -9,7 +9,7 @@ use Rattle.std.specs.declared.cmp.Ordering.TheVariants.{Less, Equal, Greater}
 use Rattle.std.specs.Cmp.{IsTotalOrder}
 use Rattle.std.specs.Ordering.{nat_cmp, is_lt, ordering_then, ordering_reverse}
 use Rattle.std.specs.List.Sorted.{IsPermutation, IsSorted}
-use Rattle.ep_base.specs.Candidates.{Candidate, is_before, put_in, in_order}
+use Rattle.ep_rules.specs.EntryPoint.Candidates.{Candidate, is_before, put_in, in_order}
 use Rattle.select_rules.specs.declared.pair.Ranked.{Ranked}
 use Rattle.select_rules.specs.Left.{place_of}
 use Rattle.select_rules.specs.Order.{ranked_of, pair_of}

@@ -1,9 +1,9 @@
 -- How pairs of numbers stand for the candidates that are left (this project's own).
 use Rattle.std.specs.Prelude.{◌≡◌, ℕ, ◌+◌, true, List, map, slice_get, Some}
 use Rattle.std.specs.List.{AllByRecursion}
-use Rattle.ep_base.specs.PreProcessing.{Ready}
-use Rattle.ep_base.specs.Directory.{Entry, is_named}
-use Rattle.ep_base.specs.Candidates.{Candidate}
+use Rattle.ep_rules.specs.EntryPoint.PreProcessing.{Ready}
+use Rattle.ep_base.specs.Objects.Directory.{Entry, is_named}
+use Rattle.ep_rules.specs.EntryPoint.Candidates.{Candidate}
 use Rattle.select_rules.specs.declared.pair.Pair.{Pair}
 
 -- The numbers of a candidate's entry and Combination.

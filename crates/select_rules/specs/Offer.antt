@@ -1,9 +1,9 @@
 -- What the code keeps of an entry that can be a candidate (this project's own).
 use Rattle.std.specs.Prelude.{◌≡◌, ℕ, true, false, List, if◌then◌else◌, Some, None}
 use Rattle.std.specs.declared.option.Option.{Option}
-use Rattle.ep_base.specs.PreProcessing.{Ready}
-use Rattle.ep_base.specs.Directory.{Entry, is_named}
-use Rattle.ep_base.specs.Candidates.{fits, requested_by, priority_key}
+use Rattle.ep_rules.specs.EntryPoint.PreProcessing.{Ready}
+use Rattle.ep_base.specs.Objects.Directory.{Entry, is_named}
+use Rattle.ep_rules.specs.EntryPoint.Candidates.{fits, requested_by, priority_key}
 use Rattle.select_rules.specs.declared.offer.Offer.{Offer}
 
 -- The ADF Name of an entry that has one of 5 to 16 bytes.

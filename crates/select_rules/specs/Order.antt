@@ -1,5 +1,5 @@
 -- The code's form of a candidate (this project's own).
-use Rattle.ep_base.specs.Candidates.{Candidate}
+use Rattle.ep_rules.specs.EntryPoint.Candidates.{Candidate}
 use Rattle.select_rules.specs.declared.pair.Pair.{Pair}
 use Rattle.select_rules.specs.declared.pair.Ranked.{Ranked}
 

@@ -1,7 +1,7 @@
 //! What an entry of the directory asks for.
 ghost use Rattle.std.specs.Prelude.{◌≡◌, ◌<◌, ◌≤◌};
 ghost use Rattle.std.specs.Option.{option_map};
-ghost use Rattle.ep_base.specs.Candidates.{kernel_of_name, kernel_of_value, requested_by, priority_key};
+ghost use Rattle.ep_rules.specs.EntryPoint.Candidates.{kernel_of_name, kernel_of_value, requested_by, priority_key};
 
 // The kernel that the first five bytes of a name ask for, and 0 where they ask for none.
 fn kernel_of_name(name: &[u8]) -> u32

@@ -2,8 +2,8 @@
 ghost use Rattle.std.specs.Prelude.{◌≡◌, ◌<◌, ◌≤◌, ◌+◌, ◌++◌, ◌==◌, true, map, length, IfSome};
 ghost use Rattle.std.specs.Option.{option_map};
 ghost use Rattle.arrayvec.specs.ArrayVec.{array_vec_len};
-ghost use Rattle.ep_base.specs.Directory.{Entry, is_named, entry_held};
-ghost use Rattle.ep_base.specs.Candidates.{fits, pairs_of};
+ghost use Rattle.ep_base.specs.Objects.Directory.{Entry, is_named, entry_held};
+ghost use Rattle.ep_rules.specs.EntryPoint.Candidates.{fits, pairs_of};
 ghost use Rattle.select_rules.specs.Offer.{name_of, OfferOf, Offers, most_pairs};
 ghost use Rattle.select_rules.specs.Order.{ranked_of};
 

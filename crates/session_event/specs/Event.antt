@@ -1,6 +1,6 @@
 -- What an event stands for in plain data.
-use Rattle.ep_base.specs.Said.{Said, Finished, EndLink, EndBreach}
-use Rattle.ep_base.specs.Said as plain
+use Rattle.ep_rules.specs.EntryPoint.Event.{Said, Finished, EndLink, EndBreach}
+use Rattle.ep_rules.specs.EntryPoint.Event as plain
 use Rattle.session_event.specs.declared.event.Event.{Event}
 use Rattle.session_event.specs.declared.event.Event.TheVariants.{Start, Pre, Message, Card, Apdu, Candidates, Activate, Outcome, End}
 use Rattle.session_event.specs.declared.event.End as ending

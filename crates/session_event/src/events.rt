@@ -1,7 +1,7 @@
 //! Takers of events.
 ghost use Rattle.std.specs.Prelude.{◌≡◌, ℕ, OnOk, OnErr, IsErr};
-ghost use Rattle.ep_base.specs.Causes.{HasCause};
-ghost use Rattle.ep_base.specs.Transport.{EventSteps};
+ghost use Rattle.ep_base.specs.Streams.Causes.{HasCause};
+ghost use Rattle.ep_rules.specs.EntryPoint.EventSteps.{EventSteps};
 
 use crate::Event;
 

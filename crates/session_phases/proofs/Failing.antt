@@ -7,16 +7,16 @@ use Rattle.block_reader.specs.Stands.{Held, Says, KeepsLast, is_spent}
 use Rattle.block_reader.specs.declared.ends.Next.TheVariants as nexts
 use Rattle.block_reader.specs.declared.ends.LinkEnd.{LinkEnd}
 use Rattle.block_reader.specs.declared.ends.LinkEnd.TheVariants as failures
-use Rattle.ep_base.specs.Block.{Heard, is_bad, count}
-use Rattle.ep_base.specs.Carry.{turn_on}
+use Rattle.ep_base.specs.Link.Block.{ReadBlock, is_bad, count}
+use Rattle.ep_base.specs.Link.Carry.{turn_on}
 use Rattle.ep_base.specs.declared.outcome.OutcomeKind.{OutcomeKind}
-use Rattle.ep_base.specs.Hearing.{Hearing, RoundEnd}
-use Rattle.ep_base.specs.LinkEvents.{AreKept, kept_after, exchange_of}
-use Rattle.ep_base.specs.LinkFrames.{LinkSetting, Kept, heard_block}
-use Rattle.ep_base.specs.Radio.{OpenLink}
-use Rattle.ep_base.specs.ReaderEnd.{Reader, Phase, Turn, Asks, Gives, Spends, Breaks}
-use Rattle.ep_base.specs.Said.{Said, Tells, Outcome, Verdict}
-use Rattle.law_lane.specs.Standing.{Doing, Carries}
+use Rattle.ep_base.specs.Air.Heard.{Heard, RoundEnd}
+use Rattle.ep_base.specs.Link.LinkEvents.{AreKept, kept_after, exchange_of}
+use Rattle.ep_base.specs.Link.LinkFrames.{LinkSetting, Kept, heard_block}
+use Rattle.ep_base.specs.Poll.Radio.{OpenLink}
+use Rattle.ep_base.specs.Link.ReaderEnd.{Reader, Phase, Turn, Asks, Gives, Spends, Breaks}
+use Rattle.ep_rules.specs.EntryPoint.Event.{Said, Tells, Outcome, Verdict}
+use Rattle.ep_claim.specs.Lanes.Standing.{Doing, Carries}
 use Rattle.session_event.specs.declared.event.End.TheVariants as ending
 use Rattle.session_phases.specs.Causes.{FindsNone, block_in, bad_in, SpentOver, BrokenOver, FailsOver, FailedIn, HasOutcome}
 use Rattle.session_phases.specs.Ends.{end_of_failure}
@@ -33,21 +33,21 @@ counted_so false true n = refl
 counted_so false false n = refl
 
 -- One more at the end counts as one more at the front.
-count_more : (p : Heard → Bool) (x : Heard) (xs : List Heard) → count p (xs ++ x ∷ []) ≡ count p (x ∷ xs)
+count_more : (p : ReadBlock → Bool) (x : ReadBlock) (xs : List ReadBlock) → count p (xs ++ x ∷ []) ≡ count p (x ∷ xs)
 count_more p x [] = refl
 count_more p x (y ∷ ys) = ap (λ (n : ℕ). cond (p y) (suc n) n) (count_more p x ys) ∙ counted_so (p y) (p x) (count p ys)
 
 -- As many exchanges are bad as hearings since the toggle.
-bad_kept : (set : LinkSetting) (n : Bool) (phase : Phase) (hs : List Heard) (ks : List Kept) → AreKept set n phase hs ks → bad_in set (reverse ks) ≡ count is_bad hs
+bad_kept : (set : LinkSetting) (n : Bool) (phase : Phase) (hs : List ReadBlock) (ks : List Kept) → AreKept set n phase hs ks → bad_in set (reverse ks) ≡ count is_bad hs
 bad_kept set n phase [] [] all = refl
 bad_kept set n phase [] (k ∷ ks) all = absurd all
 bad_kept set n phase (h ∷ hs) [] all = absurd all
 bad_kept set n phase (h ∷ hs) (k ∷ ks) all =
     ap (λ (js : List Kept). bad_in set js) (reverse-append (k ∷ []) ks)
-    ∙ ap (λ (xs : List Heard). count is_bad xs) (map-append (block_in set) (reverse ks) (k ∷ []))
+    ∙ ap (λ (xs : List ReadBlock). count is_bad xs) (map-append (block_in set) (reverse ks) (k ∷ []))
     ∙ count_more is_bad (block_in set k) (map (block_in set) (reverse ks))
     ∙ ap (λ (n : ℕ). cond (is_bad (block_in set k)) (suc n) n) (bad_kept set n phase hs ks all.2)
-    ∙ ap (λ (x : Heard). count is_bad (x ∷ hs)) all.1
+    ∙ ap (λ (x : ReadBlock). count is_bad (x ∷ hs)) all.1
 
 -- ---- a failed link
 
@@ -55,7 +55,7 @@ both : (a b : Bool) → true ≡ (a && b) → a ≡ true
 both true b is = refl
 both false b is = sym is
 
-module _ (set : LinkSetting) (r : Reader) (heard : Hearing) (e : Held) (old : List Kept) where
+module _ (set : LinkSetting) (r : Reader) (heard : Heard) (e : Held) (old : List Kept) where
   spent : (bad : ℕ) (t : Turn) → turn_on set r heard ≡ t → Says (nexts.Failed (failures.Spent bad)) e.set heard t → KeepsLast e heard t → e.set ≡ set
       → e.since ≡ kept_after old r t (exchange_of set r heard) → is_bad (heard_block set.kind set.frames.reader heard) ≡ true → SpentOver heard (record { set = set; reader = r }) e
   spent bad (Spends q) is says last same kept was = record {
@@ -103,14 +103,14 @@ carded failures.Device = tt
 -- ---- after an exchange
 
 -- The open command's link is the one that failed.
-pub carried_failed : (o : plain.Onward) (heard : Hearing) (l : OpenLink) (e : Held) (doing : Doing) → doing ≡ Carries l → FailsThen o heard l e → FailedThen o heard doing (Some e)
+pub carried_failed : (o : plain.Onward) (heard : Heard) (l : OpenLink) (e : Held) (doing : Doing) → doing ≡ Carries l → FailsThen o heard l e → FailedThen o heard doing (Some e)
 carried_failed (plain.Ask ask step) heard l e doing is h = tt
 carried_failed (plain.Ended ending.Done) heard l e doing is h = tt
 carried_failed (plain.Ended ending.Link) heard l e doing is h = record { over = l; carried = is; e = e; link_is = refl; fails = h }
 carried_failed (plain.Ended ending.NoCard) heard l e doing is h = tt
 carried_failed (plain.Ended ending.Breach) heard l e doing is h = record { over = l; carried = is; e = e; link_is = refl; fails = h }
 
-pub none_failed : (o : plain.Onward) (heard : Hearing) (doing : Doing) (link : Option Held) → NoFailureThen o → FailedThen o heard doing link
+pub none_failed : (o : plain.Onward) (heard : Heard) (doing : Doing) (link : Option Held) → NoFailureThen o → FailedThen o heard doing link
 none_failed (plain.Ask ask step) heard doing link h = tt
 none_failed (plain.Ended ending.Done) heard doing link h = tt
 none_failed (plain.Ended ending.Link) heard doing link h = absurd h

@@ -1,31 +1,31 @@
 -- What is asked over a link, and where a transaction stands then.
 use Rattle.std.proofs.Common.{◌≡◌, ℕ, zero, suc, ◌<◌, ◌≤◌, Bool, true, false, List, [], ◌∷◌, ◌++◌, length, Option, Some, None, refl, ap, sym, subst, ◌∙◌, arith, append_assoc, append-nil}
 use Rattle.ep_base.specs.declared.outcome.Message.TheVariants.{OneCardOnly}
-use Rattle.ep_base.specs.Apdu.{select, ppse_name}
-use Rattle.ep_base.specs.Arena.{Object}
-use Rattle.ep_base.specs.Candidates.{candidates}
-use Rattle.ep_base.specs.Dialogue.{opened}
-use Rattle.ep_base.specs.Directory.{directory}
+use Rattle.ep_base.specs.Cards.Apdu.{select, ppse_name}
+use Rattle.ep_base.specs.Objects.Arena.{Object}
+use Rattle.ep_rules.specs.EntryPoint.Candidates.{candidates}
+use Rattle.ep_base.specs.Link.Dialogue.{opened}
+use Rattle.ep_base.specs.Objects.Directory.{directory}
 use Rattle.ep_base.specs.declared.air.CardKind.{CardKind}
-use Rattle.ep_base.specs.FrameSize.{frame_size}
-use Rattle.ep_base.specs.EntryPoint.{ends, start_b, starts, presented, selects}
-use Rattle.ep_base.specs.Hearing.{Activated, Asked, Hearing, RoundEnd}
-use Rattle.ep_base.specs.Hearing as rounds
-use Rattle.ep_base.specs.Kernel.{KernelSteps}
-use Rattle.ep_base.specs.LinkFrames.{LinkSetting}
-use Rattle.ep_base.specs.PreProcessing.{Ready}
-use Rattle.ep_base.specs.Radio.{OpenLink, setting_of, link_to}
-use Rattle.ep_base.specs.ReaderEnd.{Reader, Turn, Asks, Gives, Spends, Breaks, asked, begin}
-use Rattle.ep_base.specs.Round.{Stage, Waking, round_asks, round_hears}
-use Rattle.ep_base.specs.Said.{Said, Ending, End, EndLink, EndBreach, Finished, NoCard, Candidates}
-use Rattle.ep_base.specs.Talk.{Talk, Result, Response, Round, Closed, Over, Say, Poll, Command, Close, Wish, Polls, Commands, Closes, Nothing, so_far, by_end}
-use Rattle.ep_base.specs.Talk as talks
-use Rattle.ep_base.specs.TransportRun.{HearEnd, Whole, AtLink, AtBreach, said_for}
+use Rattle.ep_base.specs.Air.FrameSize.{frame_size}
+use Rattle.ep_rules.specs.EntryPoint.Transaction.{ends, start_b, starts, presented, selects}
+use Rattle.ep_base.specs.Air.Heard.{Activated, Ask, Heard, RoundEnd}
+use Rattle.ep_base.specs.Air.Heard as rounds
+use Rattle.ep_rules.specs.EntryPoint.Kernel.{KernelSteps}
+use Rattle.ep_base.specs.Link.LinkFrames.{LinkSetting}
+use Rattle.ep_rules.specs.EntryPoint.PreProcessing.{Ready}
+use Rattle.ep_base.specs.Poll.Radio.{OpenLink, setting_of, link_to}
+use Rattle.ep_base.specs.Link.ReaderEnd.{Reader, Turn, Asks, Gives, Spends, Breaks, asked, begin}
+use Rattle.ep_base.specs.Poll.Round.{Stage, Waking, round_asks, round_hears}
+use Rattle.ep_rules.specs.EntryPoint.Event.{Said, Ending, End, EndLink, EndBreach, Finished, NoCard, Candidates}
+use Rattle.ep_rules.specs.EntryPoint.Talk.{Talk, Result, Response, Round, Closed, Over, Say, Poll, Command, Close, Wish, Polls, Commands, Closes, Nothing, so_far, by_end}
+use Rattle.ep_rules.specs.EntryPoint.Talk as talks
+use Rattle.ep_rules.specs.EntryPoint.TransportRun.{HearEnd, Whole, AtLink, AtBreach, said_for}
 use Rattle.block_reader.specs.Stands.{Held, Asking, Rests, StandsAt, Says}
 use Rattle.block_reader.specs.declared.ends.Next.TheVariants as nexts
 use Rattle.block_reader.specs.declared.ends.LinkEnd.{LinkEnd}
 use Rattle.block_reader.specs.declared.ends.LinkEnd.TheVariants as failures
-use Rattle.law_lane.specs.Standing.{Doing, Rounds, Carries, Closing, Stopped, Standing, begins, doing_by, standing, asks_block, asked_by, after_stage, after_turn, hears_by, after_hearing, ending_of, events_by, events_of}
+use Rattle.ep_claim.specs.Lanes.Standing.{Doing, Rounds, Carries, Closing, Stopped, Standing, begins, doing_by, standing, asks_block, asked_by, after_stage, after_turn, hears_by, after_hearing, ending_of, events_by, events_of}
 use Rattle.poll_activate.specs.Poll.{PollState}
 use Rattle.poll_activate.specs.Poll as polling
 use Rattle.session_event.specs.Event.{said_of_end}
@@ -63,14 +63,14 @@ module _ (talk : Talk) (results : List Result) (said : List Said) (link : Option
   doing_now rest w is comes = ap (λ (w : Wish). doing_by w link) (sym (ap (λ (s : talks.SoFar). s.wish) (now talk results said rest comes) ∙ is))
 
   -- The first frame of a round.
-  pub rolls : (fsdi left : ℕ) (collided : Bool) (next : List ℕ → Talk) (p : PollState) (ask : Asked)
+  pub rolls : (fsdi left : ℕ) (collided : Bool) (next : List ℕ → Talk) (p : PollState) (ask : Ask)
       → p.fsdi ≡ fsdi → p.stage ≡ Some Waking → ask ≡ polling.asked p → Comes talk results said (polls left collided (presents next))
       → Rolls fsdi p left collided talk (standing talk results link) said next × (asked_by fsdi (standing talk results link).doing ≡ Some ask)
   rolls fsdi left collided next p ask code at is comes =
       let does : Rounds Waking ≡ (standing talk results link).doing = doing_now (polls left collided (presents next)) Polls refl comes in
       let asks : ask ≡ round_asks fsdi Waking = is ∙ ap (λ (stage : Option Stage). polling.asked_in p.fsdi stage) at ∙ ap (λ (n : ℕ). round_asks n Waking) code in (
         record { round = record { fsdi_is = code; at = (Waking, at, sym does) }; comes = comes },
-        ap (λ (d : Doing). asked_by fsdi d) (sym does) ∙ ap (λ (a : Asked). let o : Option Asked = Some a in o) (sym asks),
+        ap (λ (d : Doing). asked_by fsdi d) (sym does) ∙ ap (λ (a : Ask). let o : Option Ask = Some a in o) (sym asks),
       )
 
 -- The events of a transaction that is over.
@@ -112,7 +112,7 @@ pub one_more : (left fewer : ℕ) (collided : Bool) (next : Activated → Talk) 
 one_more left fewer collided next is = subst (λ (n : ℕ). talks.rounds OneCardOnly n collided next ≡ polls fewer collided next) (sym is) (some_more fewer collided next)
 
 -- A card was found.
-pub finds : (talk : Talk) (results : List Result) (said : List Said) (fsdi : ℕ) (card : Activated) (e0 e1 : Held) (command : List ℕ) (ask : Asked) (next : List ℕ → Talk)
+pub finds : (talk : Talk) (results : List Result) (said : List Said) (fsdi : ℕ) (card : Activated) (e0 e1 : Held) (command : List ℕ) (ask : Ask) (next : List ℕ → Talk)
     → command ≡ select ppse_name → e0.set ≡ setting_of fsdi card
     → Does (Some e1) (plain.Command command plain.Directory) (doing_by (Commands command) (Some (record { set = e0.set; reader = opened })))
     → asked_by fsdi (doing_by (Commands command) (Some (record { set = e0.set; reader = opened }))) ≡ Some ask
@@ -180,7 +180,7 @@ module _ {S : Type 0} (k : KernelSteps S) (ones : List Ready) (s : S) where
     wished_now (plain.Close false) h = waits_for h.0.rest Closes (ap (λ (t : Talk). so_far t []) h.0.rest_is) h.0.comes
 
     -- A block of the command goes on.
-    pub asks_more : (turn : Turn) (e0 e1 : Held) (heard : Hearing) (fsdi : ℕ) (command : List ℕ) (purpose : plain.Purpose) (ask : Asked)
+    pub asks_more : (turn : Turn) (e0 e1 : Held) (heard : Heard) (fsdi : ℕ) (command : List ℕ) (purpose : plain.Purpose) (ask : Ask)
         → Says (nexts.Ask ask) e1.set heard turn → StandsAt e1 turn → e1.set ≡ e0.set → Serves k ones s objects talk results said command purpose
         → Turned k ones s objects fsdi (Some e1) (plain.Ask ask (plain.Waiting (plain.Command command purpose))) talk (after_turn talk results e0.set turn) said
     asks_more (Asks r) e0 e1 heard fsdi command purpose ask says stands same served = (
@@ -188,14 +188,14 @@ module _ {S : Type 0} (k : KernelSteps S) (ones : List Ready) (s : S) where
         does = record { reader = r; asking = stands; does = ap (λ (set : LinkSetting). Carries (record { set = set; reader = r })) (sym same) };
         goes = served;
       },
-      ap (λ (set : LinkSetting). let o : Option Asked = Some (asks_block set (asked r)) in o) (sym same) ∙ ap (λ (a : Asked). let o : Option Asked = Some a in o) (sym says),
+      ap (λ (set : LinkSetting). let o : Option Ask = Some (asks_block set (asked r)) in o) (sym same) ∙ ap (λ (a : Ask). let o : Option Ask = Some a in o) (sym says),
     )
     asks_more (Gives response r) e0 e1 heard fsdi command purpose ask says stands same served = absurd says
     asks_more (Spends r) e0 e1 heard fsdi command purpose ask says stands same served = absurd says
     asks_more (Breaks r) e0 e1 heard fsdi command purpose ask says stands same served = absurd says
 
     -- The link has failed.
-    pub fails : (turn : Turn) (e0 e1 : Held) (heard : Hearing) (failure : LinkEnd) (w : plain.Wish) (new : List Said)
+    pub fails : (turn : Turn) (e0 e1 : Held) (heard : Heard) (failure : LinkEnd) (w : plain.Wish) (new : List Said)
         → Says (nexts.Failed failure) e1.set heard turn → Wished k ones s objects talk results said w → new ≡ said ++ said_of_end (end_of_failure failure) ∷ []
         → EndsSo (end_of_failure failure) talk (after_turn talk results e0.set turn) new
     fails (Spends r) e0 e1 heard (failures.Spent bad) w new says h told = record {
@@ -226,7 +226,7 @@ module _ {S : Type 0} (k : KernelSteps S) (ones : List Ready) (s : S) where
     fails (Breaks r) e0 e1 heard failures.Device w new says h told = absurd says
 
   -- The response has come, and what is wished after it is begun.
-  pub gives : (objects : List Object) (talk : Talk) (results : List Result) (said : List Said) (turn : Turn) (e0 e1 e2 : Held) (heard : Hearing) (fsdi : ℕ) (response : List ℕ) (w : plain.Wish) (ask : Asked)
+  pub gives : (objects : List Object) (talk : Talk) (results : List Result) (said : List Said) (turn : Turn) (e0 e1 e2 : Held) (heard : Heard) (fsdi : ℕ) (response : List ℕ) (w : plain.Wish) (ask : Ask)
       → Says (nexts.Done response) e1.set heard turn → StandsAt e1 turn → e1.set ≡ e0.set
       → Wished k ones s objects talk (results ++ Response response ∷ []) said w
       → ((reader : Reader) → Rests e1 reader → Does (Some e2) w (doing_by (wished w) (Some (record { set = e1.set; reader = reader }))))
@@ -256,13 +256,13 @@ set_is e fsdi card kind size reader fwi =
     ∙ ap (λ (x : ℕ). let s : LinkSetting = record { kind = card.kind; frames = record { card = card.fsc; reader = frame_size fsdi }; fwi = x } in s) fwi
 
 -- A round goes on with its next frame.
-pub rolls_on : (talk : Talk) (results : List Result) (said : List Said) (t : rounds.Turn Stage) (fsdi left : ℕ) (collided : Bool) (next : List ℕ → Talk) (p : PollState) (ask : Asked)
+pub rolls_on : (talk : Talk) (results : List Result) (said : List Said) (t : rounds.Turn Stage) (fsdi left : ℕ) (collided : Bool) (next : List ℕ → Talk) (p : PollState) (ask : Ask)
     → None ≡ rounds.end_of t → p.stage ≡ rounds.place_of t → p.fsdi ≡ fsdi → ask ≡ polling.asked p → Comes talk results said (polls left collided (presents next))
     → Rolls fsdi p left collided talk (after_stage fsdi talk results t) said next × (asked_by fsdi (after_stage fsdi talk results t).doing ≡ Some ask)
 rolls_on talk results said (rounds.Goes stage) fsdi left collided next p ask none at code is comes =
     let asks : ask ≡ round_asks fsdi stage = is ∙ ap (λ (stage : Option Stage). polling.asked_in p.fsdi stage) at ∙ ap (λ (n : ℕ). round_asks n stage) code in (
       record { round = record { fsdi_is = code; at = (stage, at, refl) }; comes = comes },
-      ap (λ (a : Asked). let o : Option Asked = Some a in o) (sym asks),
+      ap (λ (a : Ask). let o : Option Ask = Some a in o) (sym asks),
     )
 rolls_on talk results said (rounds.Ends e) fsdi left collided next p ask none at code is comes = absurd (let g : ⊥ = cc in g)
 
@@ -283,10 +283,10 @@ module _ {S : Type 0} (k : KernelSteps S) (ones : List Ready) (s : S) where
   closes_at (Some e) again d h = (record { set = e.set; reader = h.reader }, h.does)
 
   -- A standing in which a link is closed, after the exchange.
-  pub closed_stands : (fsdi : ℕ) (talk : Talk) (heard : Hearing) (st : Standing) (l : OpenLink) → st.doing ≡ Closing l → after_hearing fsdi talk heard st ≡ standing talk (st.results ++ Closed ∷ []) None
+  pub closed_stands : (fsdi : ℕ) (talk : Talk) (heard : Heard) (st : Standing) (l : OpenLink) → st.doing ≡ Closing l → after_hearing fsdi talk heard st ≡ standing talk (st.results ++ Closed ∷ []) None
   closed_stands fsdi talk heard st l is = ap (λ (d : Doing). hears_by fsdi talk st.results heard d) is
 
-  module _ (before after : List Object) (fsdi : ℕ) (old new : Option Held) (o : plain.Onward) (talk : Talk) (st : Standing) (heard : Hearing) where
+  module _ (before after : List Object) (fsdi : ℕ) (old new : Option Held) (o : plain.Onward) (talk : Talk) (st : Standing) (heard : Heard) where
     -- A new Start B follows.
     pub starts_again : (said : List Said) → WishStands k ones s before old (plain.Close true) talk st said
         → ((next : List ℕ → Talk) → Comes talk (st.results ++ Closed ∷ []) said (polls 63 false (presents next))

@@ -5,15 +5,15 @@ use Rattle.std.specs.Option.{option_map}
 use Rattle.ep_base.specs.declared.outcome.OutcomeKind.{OutcomeKind}
 use Rattle.ep_base.specs.declared.outcome.OutcomeKind.TheVariants as kinds
 use Rattle.ep_base.specs.declared.outcome.Message.TheVariants.{TryAnotherCard}
-use Rattle.ep_base.specs.Apdu.{is_9000}
-use Rattle.ep_base.specs.Arena.{Object}
-use Rattle.ep_base.specs.Candidates.{Candidate, candidates, final_command}
-use Rattle.ep_base.specs.Directory.{Entry, directory, entries_held}
-use Rattle.ep_base.specs.Kernel.{KernelSteps, Move, Send, Done}
-use Rattle.ep_base.specs.PreProcessing.{Ready}
-use Rattle.ep_base.specs.Said.{Said, Given, Verdict, Tells, Apdu, Notice, Outcome, Candidates, Activate}
-use Rattle.ep_base.specs.Talk.{Talk, Result, Response, Say, Command, Close}
-use Rattle.ep_base.specs.EntryPoint.{ends, selects, activates, after_verdict, after_kind, after_move, kernel_runs, given_to}
+use Rattle.ep_base.specs.Cards.Apdu.{is_9000}
+use Rattle.ep_base.specs.Objects.Arena.{Object}
+use Rattle.ep_rules.specs.EntryPoint.Candidates.{Candidate, candidates, final_command}
+use Rattle.ep_base.specs.Objects.Directory.{Entry, directory, entries_held}
+use Rattle.ep_rules.specs.EntryPoint.Kernel.{KernelSteps, KernelStep, Send, Done}
+use Rattle.ep_rules.specs.EntryPoint.PreProcessing.{Ready}
+use Rattle.ep_rules.specs.EntryPoint.Event.{Said, Activation, Verdict, Tells, Apdu, Notice, Outcome, Candidates, Activate}
+use Rattle.ep_rules.specs.EntryPoint.Talk.{Talk, Result, Response, Say, Command, Close}
+use Rattle.ep_rules.specs.EntryPoint.Transaction.{ends, selects, activates, after_verdict, after_kind, after_move, kernel_runs, given_to}
 use Rattle.kernel_port.specs.Kernels.{CountsFall, RestartsFall}
 use Rattle.select_rules.specs.Left.{StandsFor}
 use Rattle.select_rules.specs.declared.pair.Pair.{Pair}
@@ -27,12 +27,12 @@ use Rattle.session_phases.proofs.Failing.{outcome_before}
 use Rattle.session_phases.proofs.Coming.{notes, notes_response, notes_outcome, same_rest}
 
 -- What is offered is the first candidate's, and nothing is offered only where none is left.
-pub first_left : (left : List Candidate) (command : List ℕ) (given : Given) → Some (command, given) ≡ option_map offered (slice_get left 0)
+pub first_left : (left : List Candidate) (command : List ℕ) (given : Activation) → Some (command, given) ≡ option_map offered (slice_get left 0)
     → (x : Candidate) × (more : List Candidate) × (left ≡ x ∷ more) × (command ≡ final_command x) × (given ≡ given_to x [])
 first_left [] command given h = absurd (let g : ⊥ = cc in g)
 first_left (x ∷ more) command given h =
     let same : (command, given) ≡ offered x = cc in
-    (x, more, refl, ap (λ (p : List ℕ × Given). p.0) same, ap (λ (p : List ℕ × Given). p.1) same)
+    (x, more, refl, ap (λ (p : List ℕ × Activation). p.0) same, ap (λ (p : List ℕ × Activation). p.1) same)
 
 pub none_left : (left : List Candidate) → None ≡ option_map offered (slice_get left 0) → left ≡ []
 none_left [] h = refl
@@ -40,7 +40,7 @@ none_left (x ∷ more) h = absurd (let g : ⊥ = cc in g)
 
 module _ {S : Type 0} (k : KernelSteps S) (ones : List Ready) (objects : List Object) (talk : Talk) (results : List Result) (before old : List Said) (s : S) where
   -- The first candidate that is left is offered.
-  pub offers : (pairs others : List Pair) (command : List ℕ) (given : Given)
+  pub offers : (pairs others : List Pair) (command : List ℕ) (given : Activation)
       → ((count : ℕ) (left : List Candidate) → StandsFor ones (entries_held count objects) pairs left → Some (command, given) ≡ option_map offered (slice_get left 0))
       → ((all : List Ready) (entries : List Entry) (left : List Candidate) → StandsFor all entries pairs left → StandsFor all entries others (drop 1 left))
       → Within k ones objects pairs (λ n. k.restarts s ≤ n) (Selects k ones s) talk results (before ++ old)
@@ -126,16 +126,16 @@ module _ {S : Type 0} (k : KernelSteps S) (ones : List Ready) (objects : List Ob
   }
 
 -- After a command, fewer than n are left.
-first_lasts : {S : Type 0} (k : KernelSteps S) (m : Move) (s1 s2 : S) → CountsFall k m s1 s2 → Lasts k (k.commands s1) m s2
+first_lasts : {S : Type 0} (k : KernelSteps S) (m : KernelStep) (s1 s2 : S) → CountsFall k m s1 s2 → Lasts k (k.commands s1) m s2
 first_lasts k (Send c) s1 s2 h = h.0
 first_lasts k (Done v) s1 s2 h = tt
 
-more_lasts : {S : Type 0} (k : KernelSteps S) (m : Move) (n : ℕ) (s1 s2 : S) → k.commands s1 < suc n → CountsFall k m s1 s2 → Lasts k n m s2
+more_lasts : {S : Type 0} (k : KernelSteps S) (m : KernelStep) (n : ℕ) (s1 s2 : S) → k.commands s1 < suc n → CountsFall k m s1 s2 → Lasts k n m s2
 more_lasts k (Send c) n s1 s2 lt h = omega (arith, h.0)
 more_lasts k (Done v) n s1 s2 lt h = tt
 
 -- The restarts that are left after a move.
-restarts_left : {S : Type 0} (k : KernelSteps S) (m : Move) (n : ℕ) (s1 s2 : S) → k.restarts s1 ≤ n → CountsFall k m s1 s2 → RestartsLeft m n (k.restarts s2)
+restarts_left : {S : Type 0} (k : KernelSteps S) (m : KernelStep) (n : ℕ) (s1 s2 : S) → k.restarts s1 ≤ n → CountsFall k m s1 s2 → RestartsLeft m n (k.restarts s2)
 restarts_left k (Send c) n s1 s2 le h = omega (arith, h.1)
 restarts_left k (Done v) n s1 s2 le h = restarts_fall v.kind h.1
   where
@@ -150,7 +150,7 @@ restarts_left k (Done v) n s1 s2 le h = restarts_fall v.kind h.1
 
 module _ {S : Type 0} (k : KernelSteps S) (ones : List Ready) (objects : List Object) (talk : Talk) (results : List Result) (before old : List Said) (s : S) where
   -- A kernel is activated, and makes its first move.
-  pub activated : (pairs : List Pair) (g : Given) (s1 s2 : S) (m : Move) (new : List Said)
+  pub activated : (pairs : List Pair) (g : Activation) (s1 s2 : S) (m : KernelStep) (new : List Said)
       → s1 ≡ k.begin s g → k.restarts s1 ≤ k.restarts s → k.step s1 None ≡ (m, s2) → CountsFall k m s1 s2 → new ≡ old ++ Tells (Activate g) ∷ []
       → Within k ones objects pairs (λ n. k.restarts s ≤ n) (Activates k ones s g) talk results (before ++ old)
       → Within k ones objects pairs (λ n. RestartsLeft m n (k.restarts s2)) (Moves k ones s2 m) talk results (before ++ new)
@@ -168,12 +168,12 @@ module _ {S : Type 0} (k : KernelSteps S) (ones : List Ready) (objects : List Ob
         stands = h.stands;
         rest = after_move next (kernel_runs k next (k.commands s1)) (m, s2);
         rest_is = (k.commands s1, first_lasts k m s1 s2 counts, refl);
-        comes = subst (λ (p : Move × S). Comes talk results (before ++ new) (after_move next (kernel_runs k next (k.commands s1)) p)) stepped
+        comes = subst (λ (p : KernelStep × S). Comes talk results (before ++ new) (after_move next (kernel_runs k next (k.commands s1)) p)) stepped
             (subst (λ (s1 : S). Comes talk results (before ++ new) (kernel_runs k next (suc (k.commands s1)) s1 None)) (sym begun) (rw add-one at noted));
       }
 
   -- A kernel's command was answered, and it makes its next move.
-  pub moved : (pairs : List Pair) (answer : List ℕ) (s2 : S) (m : Move)
+  pub moved : (pairs : List Pair) (answer : List ℕ) (s2 : S) (m : KernelStep)
       → k.step s (Some answer) ≡ (m, s2) → CountsFall k m s s2
       → Within k ones objects pairs (λ n. k.restarts s ≤ n) (Hears k ones s answer) talk results (before ++ old)
       → Within k ones objects pairs (λ n. RestartsLeft m n (k.restarts s2)) (Moves k ones s2 m) talk results (before ++ old)
@@ -189,12 +189,12 @@ module _ {S : Type 0} (k : KernelSteps S) (ones : List Ready) (objects : List Ob
         left = h.left;
         stands = h.stands;
         rest = h.rest;
-        rest_is = (fuel, more_lasts k m fuel s s2 lt counts, subst (λ (p : Move × S). h.rest ≡ after_move (after_verdict (next_start k ones h.n) (selects k (next_start k ones h.n) h.left)) (kernel_runs k (after_verdict (next_start k ones h.n) (selects k (next_start k ones h.n) h.left)) fuel) p) stepped is);
+        rest_is = (fuel, more_lasts k m fuel s s2 lt counts, subst (λ (p : KernelStep × S). h.rest ≡ after_move (after_verdict (next_start k ones h.n) (selects k (next_start k ones h.n) h.left)) (kernel_runs k (after_verdict (next_start k ones h.n) (selects k (next_start k ones h.n) h.left)) fuel) p) stepped is);
         comes = h.comes;
       }
 
   -- A final SELECT was answered 9000.
-  pub chosen : (pairs : List Pair) (given g : Given) (answer : List ℕ) → is_9000 answer ≡ true → ((x : Candidate) → given ≡ given_to x [] → g ≡ given_to x answer)
+  pub chosen : (pairs : List Pair) (given g : Activation) (answer : List ℕ) → is_9000 answer ≡ true → ((x : Candidate) → given ≡ given_to x [] → g ≡ given_to x answer)
       → Within k ones objects pairs (λ n. k.restarts s ≤ n) (Chosen k ones s given answer) talk results (before ++ old)
       → Within k ones objects pairs (λ n. k.restarts s ≤ n) (Activates k ones s g) talk results (before ++ old)
   chosen pairs given g answer good is h =
@@ -210,12 +210,12 @@ module _ {S : Type 0} (k : KernelSteps S) (ones : List Ready) (objects : List Ob
         rest = h.rest;
         rest_is = rest_is
             ∙ ap (λ (c : Bool). if c then activates k (after_verdict again (selects k again h.left)) (given_to x answer) s else selects k again h.left s) good
-            ∙ ap (λ (g : Given). activates k (after_verdict again (selects k again h.left)) g s) (sym (is x h.rest_is.1));
+            ∙ ap (λ (g : Activation). activates k (after_verdict again (selects k again h.left)) g s) (sym (is x h.rest_is.1));
         comes = h.comes;
       }
 
   -- A final SELECT was answered otherwise.
-  pub passed : (pairs : List Pair) (given : Given) (answer : List ℕ) → is_9000 answer ≡ false
+  pub passed : (pairs : List Pair) (given : Activation) (answer : List ℕ) → is_9000 answer ≡ false
       → Within k ones objects pairs (λ n. k.restarts s ≤ n) (Chosen k ones s given answer) talk results (before ++ old)
       → Within k ones objects pairs (λ n. k.restarts s ≤ n) (Selects k ones s) talk results (before ++ old)
   passed pairs given answer bad h =
@@ -273,7 +273,7 @@ module _ {S : Type 0} (k : KernelSteps S) (ones : List Ready) (objects : List Ob
             (same_rest talk results (before ++ old) h.rest (Command command next) (h.rest_is.1 ∙ ap (λ (c : List ℕ). Command c next) (sym h.rest_is.0)) h.comes);
       }
 
-  pub selected : (pairs : List Pair) (given : Given) (command answer : List ℕ) (new : List Said) → new ≡ old ++ Apdu command answer ∷ []
+  pub selected : (pairs : List Pair) (given : Activation) (command answer : List ℕ) (new : List Said) → new ≡ old ++ Apdu command answer ∷ []
       → Within k ones objects pairs (λ n. k.restarts s ≤ n) (Offers k ones s command given) talk results (before ++ old)
       → Within k ones objects pairs (λ n. k.restarts s ≤ n) (Chosen k ones s given answer) talk (results ++ Response answer ∷ []) (before ++ new)
   selected pairs given command answer new e h =

@@ -1,16 +1,16 @@
 -- How the cause of a transaction's end shows: in the rounds of its last Start B, over its last link, and in what it said.
 use Rattle.std.specs.Prelude.{◌≡◌, ℕ, true, List, [], ◌∷◌, ◌++◌, All, length, map, Option, Some}
 use Rattle.block_reader.specs.Stands.{Held}
-use Rattle.ep_base.specs.Block.{Heard, is_bad, count}
-use Rattle.ep_base.specs.Carry.{turn_on}
+use Rattle.ep_base.specs.Link.Block.{ReadBlock, is_bad, count}
+use Rattle.ep_base.specs.Link.Carry.{turn_on}
 use Rattle.ep_base.specs.declared.outcome.OutcomeKind.{OutcomeKind}
-use Rattle.ep_base.specs.Hearing.{Hearing, RoundEnd, Empty, Collision, Unsupported, Broken, Found}
-use Rattle.ep_base.specs.LinkEvents.{exchange_of}
-use Rattle.ep_base.specs.LinkFrames.{LinkSetting, Kept, heard_block}
-use Rattle.ep_base.specs.Radio.{OpenLink}
-use Rattle.ep_base.specs.ReaderEnd.{Reader, Spends, Breaks}
-use Rattle.ep_base.specs.Said.{Said, Tells, Outcome}
-use Rattle.law_lane.specs.Standing.{Doing, Carries}
+use Rattle.ep_base.specs.Air.Heard.{Heard, RoundEnd, Empty, Collision, Unsupported, Broken, Found}
+use Rattle.ep_base.specs.Link.LinkEvents.{exchange_of}
+use Rattle.ep_base.specs.Link.LinkFrames.{LinkSetting, Kept, heard_block}
+use Rattle.ep_base.specs.Poll.Radio.{OpenLink}
+use Rattle.ep_base.specs.Link.ReaderEnd.{Reader, Spends, Breaks}
+use Rattle.ep_rules.specs.EntryPoint.Event.{Said, Tells, Outcome}
+use Rattle.ep_claim.specs.Lanes.Standing.{Doing, Carries}
 use Rattle.session_event.specs.Event.{said_of_end}
 use Rattle.session_event.specs.declared.event.End.{End}
 use Rattle.session_event.specs.declared.event.End.TheVariants as ending
@@ -29,7 +29,7 @@ pub record IsNoCard (ends : List RoundEnd) : Type 0 where
   pub none : All FindsNone ends
 
 -- What the reader made of an exchange that is kept (ISO/IEC 14443-4).
-abbrev pub block_in : LinkSetting → Kept → Heard
+abbrev pub block_in : LinkSetting → Kept → ReadBlock
 block_in set k = heard_block set.kind set.frames.reader k.heard
 
 -- How many of these exchanges were bad (this project's profile).
@@ -43,7 +43,7 @@ pub record IsLast (k : Kept) (ks : List Kept) : Type 0 where
 
 -- By its reader's table this link is spent at this hearing, the third bad one since the toggle; the exchanges that the reader's end keeps then show
 -- it (this project's profile).
-pub record SpentOver (heard : Hearing) (l : OpenLink) (e : Held) : Type 0 where
+pub record SpentOver (heard : Heard) (l : OpenLink) (e : Held) : Type 0 where
   pub reader : Reader
   pub turn : turn_on l.set l.reader heard ≡ Spends reader
   pub third : count is_bad reader.since ≡ 3
@@ -53,21 +53,21 @@ pub record SpentOver (heard : Hearing) (l : OpenLink) (e : Held) : Type 0 where
   pub three : bad_in l.set e.since ≡ 3
 
 -- By its reader's table this hearing is a breach, and it is the last exchange that the reader's end keeps then (this project's profile).
-pub record BrokenOver (heard : Hearing) (l : OpenLink) (e : Held) : Type 0 where
+pub record BrokenOver (heard : Heard) (l : OpenLink) (e : Held) : Type 0 where
   pub reader : Reader
   pub turn : turn_on l.set l.reader heard ≡ Breaks reader
   pub set_is : e.set ≡ l.set
   pub last : IsLast (exchange_of l.set l.reader heard) e.since
 
 -- How a link that failed shows it at the end of its transaction; no link fails at another end (this project's profile).
-abbrev pub FailsOver : End → Hearing → OpenLink → Held → Type 0
+abbrev pub FailsOver : End → Heard → OpenLink → Held → Type 0
 FailsOver ending.Done heard l e = ⊥
 FailsOver ending.Link heard l e = SpentOver heard l e
 FailsOver ending.NoCard heard l e = ⊥
 FailsOver ending.Breach heard l e = BrokenOver heard l e
 
 -- A command was open over a link, and that link failed so (this project's own).
-pub record FailedIn (end : End) (heard : Hearing) (doing : Doing) (link : Option Held) : Type 0 where
+pub record FailedIn (end : End) (heard : Heard) (doing : Doing) (link : Option Held) : Type 0 where
   pub over : OpenLink
   pub carried : doing ≡ Carries over
   pub e : Held

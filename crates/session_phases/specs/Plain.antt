@@ -1,7 +1,7 @@
 -- What a transaction does between two exchanges, in plain data: a value of the code's, together with the fields that it speaks of.
 use Rattle.std.specs.Prelude.{ℕ, Bool, List}
-use Rattle.ep_base.specs.Hearing.{Asked}
-use Rattle.ep_base.specs.Said.{Given}
+use Rattle.ep_base.specs.Air.Heard.{Ask as Asked}
+use Rattle.ep_rules.specs.EntryPoint.Event.{Activation}
 use Rattle.select_rules.specs.declared.pair.Pair.{Pair}
 use Rattle.session_event.specs.declared.event.End.{End}
 use Rattle.session_phases.specs.declared.steps.Round.{Round}
@@ -18,7 +18,7 @@ use Rattle.session_phases.specs.declared.steps.Onward.TheVariants as code_onward
 -- What a command is sent for, with what is kept for its answer.
 pub data Purpose : Type 0 where
   Directory : Purpose
-  Final : (given : Given) → (rest : List Pair) → Purpose
+  Final : (given : Activation) → (rest : List Pair) → Purpose
   Kernel : (rest : List Pair) → Purpose
 
 -- What is wished of the card that is presented.

@@ -1,14 +1,14 @@
 -- What is shown of a transaction's last Start B and of its last link.
 use Rattle.std.specs.Prelude.{◌≡◌, ℕ, ◌+◌, Bool, true, false, All, List, [], ◌∷◌, ◌++◌, length, Option, Some, None, if◌then◌else◌}
-use Rattle.ep_base.specs.Carry.{turn_on}
-use Rattle.ep_base.specs.Hearing.{Hearing, RoundEnd, Empty, Collision, Unsupported, Broken, Found, Turn, Goes, Ends}
-use Rattle.ep_base.specs.LinkEvents.{kept_after, exchange_of}
-use Rattle.ep_base.specs.LinkFrames.{Kept}
-use Rattle.ep_base.specs.Round.{Stage, round_hears}
-use Rattle.ep_base.specs.Radio.{OpenLink}
-use Rattle.ep_base.specs.Talk.{Result, Round, Response, Closed}
+use Rattle.ep_base.specs.Link.Carry.{turn_on}
+use Rattle.ep_base.specs.Air.Heard.{Heard, RoundEnd, Empty, Collision, Unsupported, Broken, Found, Turn, Goes, Ends}
+use Rattle.ep_base.specs.Link.LinkEvents.{kept_after, exchange_of}
+use Rattle.ep_base.specs.Link.LinkFrames.{Kept}
+use Rattle.ep_base.specs.Poll.Round.{Stage, round_hears}
+use Rattle.ep_base.specs.Poll.Radio.{OpenLink}
+use Rattle.ep_rules.specs.EntryPoint.Talk.{Result, Round, Response, Closed}
 use Rattle.block_reader.specs.Stands.{Held}
-use Rattle.law_lane.specs.Standing.{Doing, Rounds, Carries, Closing, Stopped, Astray, Standing}
+use Rattle.ep_claim.specs.Lanes.Standing.{Doing, Rounds, Carries, Closing, Stopped, Astray, Standing}
 use Rattle.session_event.specs.declared.event.End.{End}
 use Rattle.session_event.specs.declared.event.End.TheVariants as ending
 use Rattle.session_phases.specs.Causes.{FindsNone, IsNoCard, FailsOver, FailedIn}
@@ -136,19 +136,19 @@ DoneThen (plain.Ask ask step) = Unit {0}
 DoneThen (plain.Ended end) = IsDone end
 
 -- Where the open command's link has failed, what its reader's end keeps shows it (this project's profile).
-abbrev pub FailsThen : Onward → Hearing → OpenLink → Held → Type 0
+abbrev pub FailsThen : Onward → Heard → OpenLink → Held → Type 0
 FailsThen (plain.Ask ask step) heard l e = Unit {0}
 FailsThen (plain.Ended end) heard l e = FailsOver end heard l e
 
 -- An end of a failed link shows it (this project's profile).
-abbrev pub EndFailed : End → Hearing → Doing → Option Held → Type 0
+abbrev pub EndFailed : End → Heard → Doing → Option Held → Type 0
 EndFailed ending.Done heard doing link = Unit {0}
 EndFailed ending.Link heard doing link = FailedIn ending.Link heard doing link
 EndFailed ending.NoCard heard doing link = Unit {0}
 EndFailed ending.Breach heard doing link = FailedIn ending.Breach heard doing link
 
 -- The same after an exchange (this project's own).
-abbrev pub FailedThen : Onward → Hearing → Doing → Option Held → Type 0
+abbrev pub FailedThen : Onward → Heard → Doing → Option Held → Type 0
 FailedThen (plain.Ask ask step) heard doing link = Unit {0}
 FailedThen (plain.Ended end) heard doing link = EndFailed end heard doing link
 
@@ -176,7 +176,7 @@ kept_turned (Goes stage) ks = ks
 kept_turned (Ends e) ks = kept_found e ks
 
 -- What is lent after a hearing: while a command is open, by the block number's toggles; a close changes nothing (this project's profile).
-abbrev pub kept_by : Hearing → Doing → List Kept → List Kept
+abbrev pub kept_by : Heard → Doing → List Kept → List Kept
 kept_by heard (Rounds stage) ks = kept_turned (round_hears stage heard) ks
 kept_by heard (Carries l) ks = kept_after ks l.reader (turn_on l.set l.reader heard) (exchange_of l.set l.reader heard)
 kept_by heard (Closing l) ks = ks
@@ -184,5 +184,5 @@ kept_by heard (Stopped ending) ks = ks
 kept_by heard Astray ks = ks
 
 -- The same after the hearing of a standing's next exchange (this project's profile).
-abbrev pub kept_then : Hearing → Standing → List Kept → List Kept
+abbrev pub kept_then : Heard → Standing → List Kept → List Kept
 kept_then heard st ks = kept_by heard st.doing ks

@@ -1,18 +1,18 @@
 -- How what a transaction does between two exchanges stands for its standing.
 use Rattle.std.specs.Prelude.{◌≡◌, ℕ, ◌≤◌, Bool, true, false, ◌&&◌, is_some, List, [], ◌∷◌, ◌++◌, Option, Some, None}
-use Rattle.ep_base.specs.Apdu.{select, ppse_name}
-use Rattle.ep_base.specs.Arena.{Object}
-use Rattle.ep_base.specs.Kernel.{KernelSteps}
-use Rattle.ep_base.specs.PreProcessing.{Ready}
-use Rattle.ep_base.specs.ReaderEnd.{Reader}
-use Rattle.ep_base.specs.Said.{Said}
-use Rattle.ep_base.specs.Talk.{Talk, Command}
-use Rattle.ep_base.specs.EntryPoint.{presented}
-use Rattle.ep_base.specs.TransportRun.{HearEnd}
+use Rattle.ep_base.specs.Cards.Apdu.{select, ppse_name}
+use Rattle.ep_base.specs.Objects.Arena.{Object}
+use Rattle.ep_rules.specs.EntryPoint.Kernel.{KernelSteps}
+use Rattle.ep_rules.specs.EntryPoint.PreProcessing.{Ready}
+use Rattle.ep_base.specs.Link.ReaderEnd.{Reader}
+use Rattle.ep_rules.specs.EntryPoint.Event.{Said}
+use Rattle.ep_rules.specs.EntryPoint.Talk.{Talk, Command}
+use Rattle.ep_rules.specs.EntryPoint.Transaction.{presented}
+use Rattle.ep_rules.specs.EntryPoint.TransportRun.{HearEnd}
 use Rattle.block_reader.specs.Stands.{Held, held, Asking}
 use Rattle.block_reader.specs.Stands as links
 use Rattle.block_reader.specs.declared.reader_end.ReaderEnd.{ReaderEnd}
-use Rattle.law_lane.specs.Standing.{Doing, Rounds, Carries, Closing, Stopped, Standing, asked_by, events_of}
+use Rattle.ep_claim.specs.Lanes.Standing.{Doing, Rounds, Carries, Closing, Stopped, Standing, asked_by, events_of}
 use Rattle.poll_activate.specs.Poll.{PollState}
 use Rattle.session_event.specs.Event.{said_of_end}
 use Rattle.session_event.specs.declared.event.End.{End}

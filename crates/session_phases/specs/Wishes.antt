@@ -1,15 +1,15 @@
 -- How what a transaction wishes of a presented card stands for the rest of its talk.
 use Rattle.std.specs.Prelude.{◌≡◌, ℕ, zero, suc, ◌<◌, ◌≤◌, Bool, true, false, not, ◌&&◌, List, [], ◌∷◌, length, Some, if◌then◌else◌}
-use Rattle.ep_base.specs.Apdu.{select, ppse_name, is_9000}
-use Rattle.ep_base.specs.Arena.{Object}
-use Rattle.ep_base.specs.Candidates.{Candidate, candidates, final_command}
-use Rattle.ep_base.specs.Directory.{directory, entries_held}
-use Rattle.ep_base.specs.Kernel.{KernelSteps, Move, Send, Done}
-use Rattle.ep_base.specs.PreProcessing.{Ready}
-use Rattle.ep_base.specs.Said.{Said, Given, Verdict, Candidates, Finished}
-use Rattle.ep_base.specs.Talk.{Talk, Result, Say, Command, Close, Over}
-use Rattle.ep_base.specs.Talk as talks
-use Rattle.ep_base.specs.EntryPoint.{ends, starts, start_c, selects, activates, after_verdict, after_move, kernel_runs, given_to}
+use Rattle.ep_base.specs.Cards.Apdu.{select, ppse_name, is_9000}
+use Rattle.ep_base.specs.Objects.Arena.{Object}
+use Rattle.ep_rules.specs.EntryPoint.Candidates.{Candidate, candidates, final_command}
+use Rattle.ep_base.specs.Objects.Directory.{directory, entries_held}
+use Rattle.ep_rules.specs.EntryPoint.Kernel.{KernelSteps, KernelStep, Send, Done}
+use Rattle.ep_rules.specs.EntryPoint.PreProcessing.{Ready}
+use Rattle.ep_rules.specs.EntryPoint.Event.{Said, Activation, Verdict, Candidates, Finished}
+use Rattle.ep_rules.specs.EntryPoint.Talk.{Talk, Result, Say, Command, Close, Over}
+use Rattle.ep_rules.specs.EntryPoint.Talk as talks
+use Rattle.ep_rules.specs.EntryPoint.Transaction.{ends, starts, start_c, selects, activates, after_verdict, after_move, kernel_runs, given_to}
 use Rattle.kernel_port.specs.Kernels.{RestartsFall}
 use Rattle.select_rules.specs.Left.{StandsFor}
 use Rattle.select_rules.specs.declared.pair.Pair.{Pair}
@@ -35,12 +35,12 @@ serves_wish is_open is_fresh (plain.Command command purpose) = serves is_open is
 serves_wish is_open is_fresh (plain.Close again) = true
 
 -- After the move of a kernel that has fewer than n commands left, so many are left (this project's own).
-abbrev pub Lasts : {S : Type 0} → KernelSteps S → ℕ → Move → S → Type 0
+abbrev pub Lasts : {S : Type 0} → KernelSteps S → ℕ → KernelStep → S → Type 0
 Lasts k n (Send command) s = k.commands s < n
 Lasts k n (Done verdict) s = Unit {0}
 
 -- The restarts that are left after a kernel's move, of n before (this project's own).
-abbrev pub RestartsLeft : Move → ℕ → ℕ → Type 0
+abbrev pub RestartsLeft : KernelStep → ℕ → ℕ → Type 0
 RestartsLeft (Send command) old new = new ≤ old
 RestartsLeft (Done verdict) old new = RestartsFall verdict.kind old new
 
@@ -83,11 +83,11 @@ module _ {S : Type 0} (k : KernelSteps S) (ones : List Ready) where
     Decides v again left t = t ≡ after_verdict again (selects k again left) v s
 
     -- A kernel is to be activated (EMV Book B).
-    abbrev pub Activates : Given → (S → Talk) → List Candidate → Talk → Type 0
+    abbrev pub Activates : Activation → (S → Talk) → List Candidate → Talk → Type 0
     Activates g again left t = t ≡ activates k (after_verdict again (selects k again left)) g s
 
     -- A kernel has made this move (this project's own).
-    abbrev pub Moves : Move → (S → Talk) → List Candidate → Talk → Type 0
+    abbrev pub Moves : KernelStep → (S → Talk) → List Candidate → Talk → Type 0
     Moves m again left t =
         (n : ℕ) × Lasts k n m s × (t ≡ after_move (after_verdict again (selects k again left)) (kernel_runs k (after_verdict again (selects k again left)) n) (m, s))
 
@@ -97,13 +97,13 @@ module _ {S : Type 0} (k : KernelSteps S) (ones : List Ready) where
         (n : ℕ) × (k.commands s < n) × (t ≡ kernel_runs k (after_verdict again (selects k again left)) n s (Some answer))
 
     -- A candidate's final SELECT was answered so (EMV Book B).
-    abbrev pub Chosen : Given → List ℕ → (S → Talk) → List Candidate → Talk → Type 0
+    abbrev pub Chosen : Activation → List ℕ → (S → Talk) → List Candidate → Talk → Type 0
     Chosen given answer again left t =
         (x : Candidate) × (given ≡ given_to x [])
         × (t ≡ (if is_9000 answer then activates k (after_verdict again (selects k again left)) (given_to x answer) s else selects k again left s))
 
     -- A candidate's final SELECT is to be answered (EMV Book B).
-    abbrev pub Offers : List ℕ → Given → (S → Talk) → List Candidate → Talk → Type 0
+    abbrev pub Offers : List ℕ → Activation → (S → Talk) → List Candidate → Talk → Type 0
     Offers command given again left t =
         (x : Candidate) × (command ≡ final_command x) × (given ≡ given_to x []) × (t ≡ selects k again (x ∷ left) s)
 

@@ -1,8 +1,8 @@
 //! What follows the response to a command.
 ghost use Rattle.std.specs.Prelude.{◌≡◌, ℕ, ◌+◌, ◌≤◌, List, [], ◌∷◌, ◌++◌, true};
 ghost use Rattle.arrayvec.specs.ArrayVec.{array_vec_len};
-ghost use Rattle.ep_base.specs.Said.{Said};
-ghost use Rattle.ep_base.specs.Talk.{Talk, Result, Response as Responds};
+ghost use Rattle.ep_rules.specs.EntryPoint.Event.{Said};
+ghost use Rattle.ep_rules.specs.EntryPoint.Talk.{Talk, Result, Response as Responds};
 ghost use Rattle.session_phases.specs.Plain.{purpose_of, wish_of};
 ghost use Rattle.session_phases.specs.Room.{HasRoom};
 ghost use Rattle.session_phases.specs.Told.{told_by};

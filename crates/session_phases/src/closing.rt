@@ -2,10 +2,10 @@
 ghost use Rattle.std.specs.Prelude.{◌≡◌, ℕ, ◌<◌, Bool, List, [], ◌++◌, true, false, Option};
 ghost use Rattle.arrayvec.specs.ArrayVec.{array_vec_len};
 ghost use Rattle.block_reader.specs.Stands.{Held};
-ghost use Rattle.ep_base.specs.Radio.{OpenLink};
-ghost use Rattle.ep_base.specs.Said.{Said, Ending, End as EndSaid};
-ghost use Rattle.ep_base.specs.Talk.{Talk, Result, Over};
-ghost use Rattle.law_lane.specs.Standing.{standing};
+ghost use Rattle.ep_base.specs.Poll.Radio.{OpenLink};
+ghost use Rattle.ep_rules.specs.EntryPoint.Event.{Said, Ending, End as EndSaid};
+ghost use Rattle.ep_rules.specs.EntryPoint.Talk.{Talk, Result, Over};
+ghost use Rattle.ep_claim.specs.Lanes.Standing.{standing};
 ghost use Rattle.session_event.specs.Event.{said_of_end};
 ghost use Rattle.session_phases.specs.declared.steps.Selection.{Selection};
 ghost use Rattle.session_phases.specs.Causes.{EndDecided};

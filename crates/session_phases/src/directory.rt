@@ -1,11 +1,11 @@
 //! What follows the answer to SELECT PPSE.
 ghost use Rattle.std.specs.Prelude.{◌≡◌, ℕ, ◌+◌, ◌≤◌, List, ◌++◌, true, length};
 ghost use Rattle.arrayvec.specs.ArrayVec.{array_vec_len};
-ghost use Rattle.ep_base.specs.Candidates.{Candidate};
-ghost use Rattle.ep_base.specs.Directory.{Entry};
-ghost use Rattle.ep_base.specs.PreProcessing.{Ready};
-ghost use Rattle.ep_base.specs.Said.{Said};
-ghost use Rattle.ep_base.specs.Talk.{Talk, Result};
+ghost use Rattle.ep_rules.specs.EntryPoint.Candidates.{Candidate};
+ghost use Rattle.ep_base.specs.Objects.Directory.{Entry};
+ghost use Rattle.ep_rules.specs.EntryPoint.PreProcessing.{Ready};
+ghost use Rattle.ep_rules.specs.EntryPoint.Event.{Said};
+ghost use Rattle.ep_rules.specs.EntryPoint.Talk.{Talk, Result};
 ghost use Rattle.select_rules.specs.Left.{StandsFor};
 ghost use Rattle.session_phases.specs.Plain.{wish_of};
 ghost use Rattle.session_phases.specs.Room.{HasRoom};

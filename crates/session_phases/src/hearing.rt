@@ -1,9 +1,9 @@
 //! What follows an exchange.
 ghost use Rattle.std.specs.Prelude.{◌≡◌, ℕ, ◌+◌, ◌<◌, ◌≤◌, List, [], ◌++◌, true};
 ghost use Rattle.arrayvec.specs.ArrayVec.{array_vec_len};
-ghost use Rattle.ep_base.specs.Said.{Said};
-ghost use Rattle.ep_base.specs.Talk.{Talk};
-ghost use Rattle.law_lane.specs.Standing.{Standing, after_hearing};
+ghost use Rattle.ep_rules.specs.EntryPoint.Event.{Said};
+ghost use Rattle.ep_rules.specs.EntryPoint.Talk.{Talk};
+ghost use Rattle.ep_claim.specs.Lanes.Standing.{Standing, after_hearing};
 ghost use Rattle.rf_frame.specs.Meaning.{heard_of};
 ghost use Rattle.session_phases.specs.Room.{HasRoom};
 ghost use Rattle.poll_activate.specs.Meaning.{ends_of};

@@ -2,12 +2,12 @@
 ghost use Rattle.std.specs.Prelude.{◌≡◌, ℕ, ◌+◌, ◌<◌, ◌≤◌, List, [], ◌∷◌, ◌++◌, true, Some};
 ghost use Rattle.arrayvec.specs.ArrayVec.{array_vec_len};
 ghost use Rattle.block_reader.specs.Stands.{held, is_open, is_resting, Rests, Asking};
-ghost use Rattle.ep_base.specs.Carry.{turn_on};
-ghost use Rattle.ep_base.specs.LinkEvents.{kept_after, exchange_of};
-ghost use Rattle.ep_base.specs.ReaderEnd.{Reader};
-ghost use Rattle.ep_base.specs.Said.{Said};
-ghost use Rattle.ep_base.specs.Talk.{Talk, Result};
-ghost use Rattle.law_lane.specs.Standing.{after_turn, asked_by, doing_by};
+ghost use Rattle.ep_base.specs.Link.Carry.{turn_on};
+ghost use Rattle.ep_base.specs.Link.LinkEvents.{kept_after, exchange_of};
+ghost use Rattle.ep_base.specs.Link.ReaderEnd.{Reader};
+ghost use Rattle.ep_rules.specs.EntryPoint.Event.{Said};
+ghost use Rattle.ep_rules.specs.EntryPoint.Talk.{Talk, Result};
+ghost use Rattle.ep_claim.specs.Lanes.Standing.{after_turn, asked_by, doing_by};
 ghost use Rattle.rf_frame.specs.Meaning.{heard_of};
 ghost use Rattle.session_event.specs.Event.{said_of_end};
 ghost use Rattle.session_phases.specs.Ends.{end_of_failure, IsFailure};

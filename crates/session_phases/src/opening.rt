@@ -1,10 +1,10 @@
 //! The begin of a transaction, up to its first exchange or its end.
 ghost use Rattle.std.specs.Prelude.{◌≡◌, ℕ, ◌+◌, ◌<◌, ◌≤◌, List, [], ◌++◌, true, length, None, if◌then◌else◌};
 ghost use Rattle.arrayvec.specs.ArrayVec.{array_vec_len};
-ghost use Rattle.ep_base.specs.EntryPoint.{say_ready, transaction};
-ghost use Rattle.ep_base.specs.Said.{Said, Finished};
-ghost use Rattle.ep_base.specs.Talk.{Talk, Result, Over};
-ghost use Rattle.law_lane.specs.Standing.{started};
+ghost use Rattle.ep_rules.specs.EntryPoint.Transaction.{say_ready, transaction};
+ghost use Rattle.ep_rules.specs.EntryPoint.Event.{Said, Finished};
+ghost use Rattle.ep_rules.specs.EntryPoint.Talk.{Talk, Result, Over};
+ghost use Rattle.ep_claim.specs.Lanes.Standing.{started};
 ghost use Rattle.session_phases.specs.Opening.{opens, OpenDecided};
 ghost use Rattle.poll_activate.specs.Meaning.{ends_of};
 ghost use Rattle.session_phases.specs.Plain.{onward_of};

@@ -1,8 +1,8 @@
 //! A kernel, from its activation to what follows its outcome.
 ghost use Rattle.std.specs.Prelude.{◌≡◌, ℕ, ◌+◌, ◌≤◌, List, ◌++◌, true, false};
 ghost use Rattle.arrayvec.specs.ArrayVec.{array_vec_len};
-ghost use Rattle.ep_base.specs.Said.{Said};
-ghost use Rattle.ep_base.specs.Talk.{Talk, Result};
+ghost use Rattle.ep_rules.specs.EntryPoint.Event.{Said};
+ghost use Rattle.ep_rules.specs.EntryPoint.Talk.{Talk, Result};
 ghost use Rattle.kernel_port.specs.Kernels.{move_of, is_send, RestartsFall};
 ghost use Rattle.kernel_port.specs.Outcome.{verdict_of};
 ghost use Rattle.session_phases.specs.Plain.{wish_of};

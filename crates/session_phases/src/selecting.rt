@@ -1,8 +1,8 @@
 //! The candidates that are left, and what follows a final SELECT.
 ghost use Rattle.std.specs.Prelude.{◌≡◌, ℕ, ◌+◌, ◌≤◌, List, ◌++◌, true};
 ghost use Rattle.arrayvec.specs.ArrayVec.{array_vec_len};
-ghost use Rattle.ep_base.specs.Said.{Said};
-ghost use Rattle.ep_base.specs.Talk.{Talk, Result};
+ghost use Rattle.ep_rules.specs.EntryPoint.Event.{Said};
+ghost use Rattle.ep_rules.specs.EntryPoint.Talk.{Talk, Result};
 ghost use Rattle.session_phases.specs.Plain.{wish_of};
 ghost use Rattle.session_phases.specs.Told.{told_by};
 ghost use Rattle.session_phases.specs.Wishes.{Within, Selects, Chosen, Wished, serves_wish};

@@ -3,7 +3,7 @@ use Rattle.std.proofs.Common.{◌≡◌, ℕ, ◌<◌, Bool, true, false, ◌&&�
 use Rattle.std.specs.List.{AllByRecursion}
 use Rattle.std.proofs.lemmas.Bool.{eq-eqb, ne_eqb}
 use Rattle.std.proofs.lemmas.List.{get_or_at}
-use Rattle.ep_base.specs.RawBytes.{run}
+use Rattle.ep_base.specs.Objects.RawBytes.{run}
 use Rattle.tlv_arena.specs.declared.slot.Slot.{Slot}
 use Rattle.tlv_arena.specs.declared.store.Store.{Store}
 use Rattle.tlv_arena.specs.declared.Arena.TheInside.{Inside}

@@ -3,8 +3,8 @@ use Rattle.std.proofs.Common.{◌≡◌, ℕ, zero, suc, ◌+◌, ◌<◌, ◌�
 use Rattle.std.specs.List.{AllByRecursion, remove}
 use Rattle.std.proofs.lemmas.Bool.{cases_Bool, ltb-true, ltb-false, lt-ltb, le-ltb}
 use Rattle.std.proofs.lemmas.List.{map-append}
-use Rattle.ep_base.specs.Arena.{Object, live_bytes}
-use Rattle.ep_base.specs.RawBytes.{run, slid}
+use Rattle.ep_base.specs.Objects.Arena.{Object, live_bytes}
+use Rattle.ep_base.specs.Objects.RawBytes.{run, slid}
 use Rattle.tlv_arena.specs.declared.slot.Slot.{Slot}
 use Rattle.tlv_arena.specs.StoreState.{object_at, objects_in, lens, InBlock, Clear, Apart, with_value, Side, part, parts_below, NotBelow, Done}
 use Rattle.tlv_arena.proofs.Slide.{run_len, moved, below, over}

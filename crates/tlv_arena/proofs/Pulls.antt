@@ -3,8 +3,8 @@ use Rattle.std.proofs.Common.{◌≡◌, ℕ, ◌+◌, ◌<◌, ◌≤◌, List,
 use Rattle.std.specs.List.{AllByRecursion}
 use Rattle.std.specs.Vec.{with_item}
 use Rattle.std.proofs.lemmas.List.{get_or_at, set_at, length-take-le}
-use Rattle.ep_base.specs.Arena.{live_bytes}
-use Rattle.ep_base.specs.RawBytes.{block, run, slid}
+use Rattle.ep_base.specs.Objects.Arena.{live_bytes}
+use Rattle.ep_base.specs.Objects.RawBytes.{block, run, slid}
 use Rattle.tlv_arena.specs.declared.slot.Slot.{Slot}
 use Rattle.tlv_arena.specs.declared.store.Store.{Store}
 use Rattle.tlv_arena.specs.StoreState.{objects_in, objects_of, lens, InBlock, Apart, IsStore, IsPacked, IsLowest, Side, NotBelow, Done, parts_below}

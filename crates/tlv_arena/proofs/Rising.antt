@@ -2,7 +2,7 @@
 use Rattle.std.proofs.Common.{◌≡◌, ◌≢◌, ℕ, zero, suc, ◌+◌, ◌≤◌, inl, inr, ◌&&◌, List, [], ◌∷◌, ◌++◌, Option, Some, None, refl, arith, eqb}
 use Rattle.std.specs.List.{remove}
 use Rattle.std.proofs.lemmas.Bool.{eq-eqb, ne_eqb, cases_eq, cases_Bool, and_from, both_ways}
-use Rattle.ep_base.specs.Arena.{Object, value_of, value_in, serial_of, without_group, IsRising, IsLeast}
+use Rattle.ep_base.specs.Objects.Arena.{Object, value_of, value_in, serial_of, without_group, IsRising, IsLeast}
 use Rattle.tlv_arena.specs.StoreState.{with_value}
 
 IsRising-lower : (low least : ℕ) (os : List Object) (next : ℕ) → low ≤ least → IsRising least os next → IsRising low os next

@@ -1,7 +1,7 @@
 -- Room for one more object, as a test and as a fact.
 use Rattle.std.proofs.Common.{◌≡◌, ℕ, ◌+◌, Bool, true, false, ◌&&◌, leb, ltb, length, refl}
 use Rattle.std.proofs.lemmas.Bool.{leb-true, ltb-true, le-leb, lt-ltb, and_from, both_ways}
-use Rattle.ep_base.specs.Arena.{Contents, live_bytes, HasRoom, has_room}
+use Rattle.ep_base.specs.Objects.Arena.{Contents, live_bytes, HasRoom, has_room}
 
 both : (x y : Bool) → (x && y) ≡ true → (x ≡ true) × (y ≡ true)
 both true y e = (refl, e)

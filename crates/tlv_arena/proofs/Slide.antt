@@ -1,7 +1,7 @@
 -- What is read in a block's bytes, after a slide, an append or a cut.
 use Rattle.std.proofs.Common.{◌≡◌, ℕ, ◌+◌, ◌-◌, ◌<◌, ◌≤◌, List, [], ◌∷◌, refl, ◌++◌, length, take, drop, sym, ap, ◌∙◌, append_assoc, arith}
 use Rattle.std.proofs.lemmas.List.{take_at, drop_at, take-append-le, drop-append-le, take-take, drop-take, drop-drop, length-take-le, length-drop, length-append, take_all}
-use Rattle.ep_base.specs.RawBytes.{run, slid}
+use Rattle.ep_base.specs.Objects.RawBytes.{run, slid}
 
 pub run_len : (at n : ℕ) (xs : List ℕ) → at + n ≤ length xs → length (run at n xs) ≡ n
 run_len at n xs le = length-take-le n (drop at xs) (omega (arith, length-drop at xs))

@@ -1,6 +1,6 @@
 -- The answers of an arena's calls, by what it held before.
 use Rattle.std.specs.Prelude.{◌≡◌, ℕ, List, length, None, IsSome, Result, Ok, Err}
-use Rattle.ep_base.specs.Arena.{Contents, live_bytes, value_of, HasRoom, HasRoomFor}
+use Rattle.ep_base.specs.Objects.Arena.{Contents, live_bytes, value_of, HasRoom, HasRoomFor}
 use Rattle.tlv_arena.specs.declared.ObjId.{ObjId}
 use Rattle.tlv_arena.specs.declared.Full.{Full}
 use Rattle.tlv_arena.specs.declared.ReplaceEnd.{ReplaceEnd}

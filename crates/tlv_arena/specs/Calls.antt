@@ -1,6 +1,6 @@
 -- What a call means.
 use Rattle.std.specs.Prelude.{List, map}
-use Rattle.ep_base.specs.Arena.{Call, put, replace, remove, drop_group, clear, relocate}
+use Rattle.ep_base.specs.Objects.Arena.{Call, put, replace, remove, drop_group, clear, relocate}
 use Rattle.tlv_arena.specs.declared.calls.ArenaCall.{ArenaCall}
 use Rattle.tlv_arena.specs.declared.calls.ArenaCall.TheVariants.{Put, Replace, Remove, DropGroup, Clear, Relocate}
 

@@ -1,7 +1,7 @@
 -- Where the values of the live objects lie in the arena's one block.
 use Rattle.std.specs.Prelude.{◌≡◌, ℕ, ◌+◌, ◌≤◌, ◌⊎◌, ◌==◌, if◌then◌else◌, List, [], ◌∷◌, length, Option, Some, None, MatchOption}
-use Rattle.ep_base.specs.Arena.{Object, Contents, value_of}
-use Rattle.ep_base.specs.RawBytes.{Block, run}
+use Rattle.ep_base.specs.Objects.Arena.{Object, Contents, value_of}
+use Rattle.ep_base.specs.Objects.RawBytes.{Block, run}
 
 -- what an arena holds, its block, and the place of each object's value, in the order of the puts (this project's own)
 pub record Held : Type 0 where

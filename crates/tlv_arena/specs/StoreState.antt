@@ -1,8 +1,8 @@
 -- What the slots and the block hold: the live objects in the order of the puts, wherever their bytes lie.
 use Rattle.std.specs.Prelude.{zero, suc, ◌≡◌, ◌≢◌, ℕ, ◌+◌, ◌<◌, ◌≤◌, ◌⊎◌, if◌then◌else◌, nat_lt, List, [], ◌∷◌, ◌++◌, length, map, vec_len, vec_capacity}
 use Rattle.std.specs.List.{AllByRecursion}
-use Rattle.ep_base.specs.Arena.{Object}
-use Rattle.ep_base.specs.RawBytes.{run}
+use Rattle.ep_base.specs.Objects.Arena.{Object}
+use Rattle.ep_base.specs.Objects.RawBytes.{run}
 use Rattle.tlv_arena.specs.declared.slot.Slot.{Slot}
 use Rattle.tlv_arena.specs.declared.store.Store.{Store}
 

@@ -1,6 +1,6 @@
 //! Calls of an arena as values, and a list of them made in order.
 ghost use Rattle.std.specs.Prelude.{◌≡◌};
-ghost use Rattle.ep_base.specs.Arena as kept;
+ghost use Rattle.ep_base.specs.Objects.Arena as kept;
 ghost use Rattle.tlv_arena.specs.Calls.{call_of, calls_of};
 
 use crate::{Arena, ObjId};

@@ -7,7 +7,7 @@
 
 ghost use Rattle.std.specs.Prelude.{◌≡◌, ℕ, ◌+◌, ◌-◌, ◌^◌, ◌<◌, ◌≤◌, ◌↔◌, length, IfOk, OnOk, OnErr, IsTrue, IsSome, IfSome, MatchOption, None};
 ghost use Rattle.std.specs.Option.{option_map};
-ghost use Rattle.ep_base.specs.Arena as kept;
+ghost use Rattle.ep_base.specs.Objects.Arena as kept;
 
 mod calls;
 mod lookup;

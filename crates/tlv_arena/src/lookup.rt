@@ -1,7 +1,7 @@
 //! The searches in an arena's table.
 ghost use Rattle.std.specs.Prelude.{◌≡◌, ℕ, List, length, slice_index_or, MatchOption};
 ghost use Rattle.std.specs.List.{AllByRecursion};
-ghost use Rattle.ep_base.specs.Arena as kept;
+ghost use Rattle.ep_base.specs.Objects.Arena as kept;
 ghost use Rattle.tlv_arena.specs.StoreState.{objects_in, IsAbsent, IsAt, IsLowest, InBlock, Done};
 
 use crate::slot::Slot;

@@ -1,7 +1,7 @@
 //! The table of an arena's live objects, and the one block in which their values lie.
 ghost use Rattle.std.specs.Prelude.{◌≡◌, ℕ, ◌+◌, ◌-◌, ◌<◌, ◌≤◌, [], ◌∷◌, ◌++◌, length, vec_len, IfOk, remove, get_or};
 ghost use Rattle.std.specs.List.{AllByRecursion};
-ghost use Rattle.ep_base.specs.Arena as kept;
+ghost use Rattle.ep_base.specs.Objects.Arena as kept;
 ghost use Rattle.tlv_arena.specs.StoreState.{Done};
 
 use crate::lookup::lowest;
@@ -20,7 +20,7 @@ pub(crate) struct Store {
 }
 
 impl Store {
-    ghost use Rattle.ep_base.specs.Arena.{Object, live_bytes};
+    ghost use Rattle.ep_base.specs.Objects.Arena.{Object, live_bytes};
     ghost use Rattle.tlv_arena.specs.StoreState.{IsStore, Becomes, IsPacked, objects_of, with_value};
 
     /// Takes all the memory that the store ever needs.

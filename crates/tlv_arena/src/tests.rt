@@ -1,6 +1,6 @@
 ghost use Rattle.std.specs.Prelude.{◌≡◌};
 ghost use Rattle.std.specs.Option.{option_map};
-ghost use Rattle.ep_base.specs.Arena.{value_of};
+ghost use Rattle.ep_base.specs.Objects.Arena.{value_of};
 
 use crate::{Arena, ArenaCall, Full, ObjId, ReplaceEnd};
 

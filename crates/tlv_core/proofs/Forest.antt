@@ -6,8 +6,8 @@ use Rattle.std.proofs.lemmas.List.{take_at, drop_at, length-append, length-take-
 use Rattle.ep_base.specs.declared.objects.Node.{Node}
 use Rattle.ep_base.specs.declared.objects.TlvFault.{TlvFault}
 use Rattle.ep_base.specs.declared.objects.TlvFault.TheVariants.{TagCut, TagLong, LengthCut, LengthForm, ValueCut, TooDeep}
-use Rattle.ep_base.specs.Objects.{Forest, nothing, padding, primitive, constructed, spelling, IsForest, IsTag, is_constructed, IsLength, MayStand, IsCutTag, IsLongTag, IsCutLength, IsWrongLength, Fails, nodes, Reads, BreaksAt}
-use Rattle.ep_base.specs.Reading.{tag_of, length_of, with_padding, with_primitive, with_constructed, with_length, with_tag, forest_by, forest_of}
+use Rattle.ep_base.specs.Objects.Forest.{Forest, nothing, padding, primitive, constructed, spelling, IsForest, IsTag, is_constructed, IsLength, MayStand, IsCutTag, IsLongTag, IsCutLength, IsWrongLength, Fails, nodes, Reads, BreaksAt}
+use Rattle.ep_base.specs.Objects.Reading.{tag_of, length_of, with_padding, with_primitive, with_constructed, with_length, with_tag, forest_by, forest_of}
 use Rattle.tlv_core.proofs.Heads.{head_cases, Begins}
 use Rattle.tlv_core.proofs.Runs.{nonzero_front, tag_long_enough}
 use Rattle.tlv_core.proofs.Whole.{not_both}

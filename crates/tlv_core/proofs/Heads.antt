@@ -5,7 +5,7 @@ use Rattle.std.proofs.lemmas.Bool.{eq-eqb, ne_eqb, lt-ltb, le-ltb, lt-leb, le-le
 use Rattle.std.proofs.lemmas.List.{drop_at, length-append}
 use Rattle.ep_base.specs.declared.objects.TlvFault.{TlvFault}
 use Rattle.ep_base.specs.declared.objects.TlvFault.TheVariants.{TagCut, TagLong, LengthCut, LengthForm, ValueCut, TooDeep}
-use Rattle.ep_base.specs.Objects.{IsTag, tag_number, is_constructed, IsLength, MayStand, IsCutTag, IsLongTag, IsCutLength, IsWrongLength, Fails}
+use Rattle.ep_base.specs.Objects.Forest.{IsTag, tag_number, is_constructed, IsLength, MayStand, IsCutTag, IsLongTag, IsCutLength, IsWrongLength, Fails}
 use Rattle.tlv_core.specs.declared.head.Head.{Head}
 use Rattle.tlv_core.specs.Scan.{tag_at, length_at, head_at, bit_of, with_length}
 

@@ -5,7 +5,7 @@ use Rattle.std.proofs.Math.Seq.{drop-append-add}
 use Rattle.std.proofs.lemmas.Bool.{eq-eqb, ne_eqb, cases_eq}
 use Rattle.std.proofs.lemmas.List.{append-nil, drop_at, take_at, length-append, length-take-le, length-drop}
 use Rattle.ep_base.specs.declared.objects.Node.{Node}
-use Rattle.ep_base.specs.Objects.{Forest, nothing, padding, primitive, constructed, spelling, nodes, IsForest, IsTag, tag_number, is_constructed, IsLength, MayStand}
+use Rattle.ep_base.specs.Objects.Forest.{Forest, nothing, padding, primitive, constructed, spelling, nodes, IsForest, IsTag, tag_number, is_constructed, IsLength, MayStand}
 use Rattle.tlv_core.specs.declared.head.Head.{Head}
 use Rattle.tlv_core.specs.Scan.{Run, found, nodes_of, fault_of, Step, stop, skip, fault, give, entered, object_at, step, after, run, weight, reading, head_at}
 use Rattle.tlv_core.proofs.Heads.{made_head, head_again, fails_again, head_cases}

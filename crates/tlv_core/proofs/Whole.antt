@@ -5,7 +5,7 @@ use Rattle.std.proofs.lemmas.List.{append-nil, length-append, length-take-le, le
 use Rattle.ep_base.specs.declared.objects.Node.{Node}
 use Rattle.ep_base.specs.declared.objects.TlvFault.{TlvFault}
 use Rattle.ep_base.specs.declared.objects.TlvFault.TheVariants.{TagCut, TagLong, LengthCut, LengthForm, ValueCut, TooDeep}
-use Rattle.ep_base.specs.Objects.{Forest, nothing, padding, primitive, constructed, spelling, nodes, IsForest, IsTag, tag_number, is_constructed, IsLength, MayStand, Fails, Broken, fails, inside, broken_spelling, IsBroken, place, Reads, BreaksAt}
+use Rattle.ep_base.specs.Objects.Forest.{Forest, nothing, padding, primitive, constructed, spelling, nodes, IsForest, IsTag, tag_number, is_constructed, IsLength, MayStand, Fails, Broken, fails, inside, broken_spelling, IsBroken, place, Reads, BreaksAt}
 use Rattle.tlv_core.specs.Scan.{Run, ended, broke, found, nodes_of, fault_of, reading}
 use Rattle.tlv_core.specs.Nodes.{AllWithin}
 use Rattle.tlv_core.proofs.Heads.{fails_again, head_cases, Begins}

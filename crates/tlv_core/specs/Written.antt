@@ -2,7 +2,7 @@
 use Rattle.std.specs.Prelude.{◌≡◌, ℕ, ◌+◌, ◌<◌, ◌≤◌, List, ◌++◌, length}
 use Rattle.std.specs.List.{AllByRecursion}
 use Rattle.arrayvec.specs.ArrayVec.{ArrayVec, array_vec_len}
-use Rattle.ep_base.specs.Objects.{IsTag, tag_number, IsLength}
+use Rattle.ep_base.specs.Objects.Forest.{IsTag, tag_number, IsLength}
 use Rattle.ep_base.specs.declared.limits.TheConstants.{FRAME}
 
 abbrev pub AreBytes : List ℕ → Type 0

@@ -1,7 +1,7 @@
 //! Laws of the grammar, for the proofs of the crates above. They do nothing.
 ghost use Rattle.std.specs.Prelude.{◌≡◌, ℕ, ◌+◌, false, true, List, ◌∷◌, ◌++◌, length, Some};
-ghost use Rattle.ep_base.specs.Objects.{Forest, spelling, nodes, IsForest, is_constructed, Reads};
-ghost use Rattle.ep_base.specs.Reading.{forest_of};
+ghost use Rattle.ep_base.specs.Objects.Forest.{Forest, spelling, nodes, IsForest, is_constructed, Reads};
+ghost use Rattle.ep_base.specs.Objects.Reading.{forest_of};
 ghost use Rattle.ep_base.specs.declared.objects.Node.{Node};
 ghost use Rattle.tlv_core.specs.Written.{SpellsTag, SpellsLength};
 

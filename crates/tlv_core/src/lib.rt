@@ -1,6 +1,6 @@
 //! BER-TLV objects: bytes are read whole as a list of objects, and then walked.
 //!
-//! The grammar is `ep_base/specs/Objects.antt`: a list of objects is a value that is spelled in one way, and `read`
+//! The grammar is `ep_base/specs/Objects/Forest.antt`: a list of objects is a value that is spelled in one way, and `read`
 //! accepts exactly what is so spelled.
 #![tactic(auto)]
 

@@ -1,7 +1,7 @@
 //! The reading of a list of objects, and the walk over it.
 ghost use Rattle.std.specs.Prelude.{◌≡◌, ℕ, length, IfOk, IfErr, OnErr, IsSomeAnd, Ok, Err, None, List};
-ghost use Rattle.ep_base.specs.Objects.{Reads, BreaksAt, IsForest, spelling, nodes};
-ghost use Rattle.ep_base.specs.Reading.{forest_of};
+ghost use Rattle.ep_base.specs.Objects.Forest.{Reads, BreaksAt, IsForest, spelling, nodes};
+ghost use Rattle.ep_base.specs.Objects.Reading.{forest_of};
 ghost use Rattle.ep_base.specs.declared.objects.Node.{Node};
 ghost use Rattle.ep_base.specs.declared.objects.TlvFault.{TlvFault};
 ghost use Rattle.tlv_core.specs.Nodes.{GivesFirst, AllWithin};

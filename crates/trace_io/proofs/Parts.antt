@@ -11,10 +11,11 @@ use Rattle.hex.specs.Hex.{decode_of}
 use Rattle.hex.specs.declared.error.FromHexError.{FromHexError}
 use Rattle.ep_base.specs.declared.air.Wave.{Wave}
 use Rattle.ep_base.specs.declared.air.Wave.TheVariants.{AShort, ABare, A, B}
-use Rattle.ep_base.specs.Apdu.{same_bytes}
-use Rattle.ep_base.specs.Hearing.{Hearing, Silence, Noise, Overlap, Frame}
-use Rattle.ep_base.specs.TraceForm.{SpellsFrame, SpellsHeard, SpellsLine}
-use Rattle.ep_base.specs.TraceLine.{◌>>=◌, Shown, Traced, cut, is_space, number_in, wave_letter, wave_named, frame_within, frame_spelled, after_equals, framed_spelled, heard_spelled, answer_wave, after_mark, read_shown, read_trace_line}
+use Rattle.ep_base.specs.Cards.Apdu.{same_bytes}
+use Rattle.ep_base.specs.Air.Heard.{Heard, Silence, Noise, Overlap, Frame}
+use Rattle.ep_claim.specs.Text.TraceForm.{SpellsFrame, SpellsHeard, SpellsLine}
+use Rattle.ep_claim.specs.Text.TraceLine.{Shown, TraceLine, number_in, wave_letter, wave_named, frame_within, frame_spelled, after_equals, framed_spelled, heard_spelled, answer_wave, after_mark, read_shown, read_trace_line}
+use Rattle.ep_base.specs.Streams.Words.{◌>>=◌, cut, is_space}
 use Rattle.trace_io.proofs.Spelt.{leaning}
 use Rattle.trace_io.proofs.Taken.{is_that, that_is}
 
@@ -96,7 +97,7 @@ equals_is (c ∷ cs) digits h = by_test (c == 61) refl h where
       let rest : cs ≡ digits = cc got in
       rw (first, rest) refl
 
-framed_is : (sent : Wave) (text : List ℕ) (h : Hearing) → framed_spelled (answer_wave sent) text ≡ Some h → SpellsHeard sent text h
+framed_is : (sent : Wave) (text : List ℕ) (h : Heard) → framed_spelled (answer_wave sent) text ≡ Some h → SpellsHeard sent text h
 framed_is sent text h got =
     let a = bound (after_equals text) _ h got in
     let b = bound (frame_spelled a.0) _ h a.2 in
@@ -104,10 +105,10 @@ framed_is sent text h got =
     let spelt : SpellsHeard sent text (Frame (answer_wave sent) b.0) = (refl, a.0, equals_is text a.0 a.1, frame_is a.0 b.0 b.1) in
     subst (λ x. SpellsHeard sent text x) is spelt
 
-heard_is : (sent : Wave) (text : List ℕ) (h : Hearing) → heard_spelled sent text ≡ Some h → SpellsHeard sent text h
+heard_is : (sent : Wave) (text : List ℕ) (h : Heard) → heard_spelled sent text ≡ Some h → SpellsHeard sent text h
 unfolding heard_spelled
 heard_is sent text h got = silence (same_bytes text (codes "-")) refl got where
-  sign : (heard : Hearing) → SpellsHeard sent text heard → Some heard ≡ Some h → SpellsHeard sent text h
+  sign : (heard : Heard) → SpellsHeard sent text heard → Some heard ≡ Some h → SpellsHeard sent text h
   sign heard spelt e =
       let is : heard ≡ h = cc e in
       subst (λ x. SpellsHeard sent text x) is spelt
@@ -182,7 +183,7 @@ mark_is parts body h = by_test (same_bytes parts.0 (codes "x")) refl h where
       let rest : parts.1 ≡ body = cc got in
       (same_text parts.0 (codes "x") (sym is), rest)
 
-pub read_spells : (text : List ℕ) (line : Traced) → read_trace_line text ≡ Some line → SpellsLine text line
+pub read_spells : (text : List ℕ) (line : TraceLine) → read_trace_line text ≡ Some line → SpellsLine text line
 unfolding read_trace_line
 read_spells text line got =
     let a = bound (cut text) _ line got in
@@ -191,7 +192,7 @@ read_spells text line got =
     let mark = mark_is a.0 body.0 body.1 in
     let sent = shown_is body.0 shown.0.0 shown.0.1 shown.1 in
     let heard = bound (heard_spelled shown.0.0.wave shown.0.1) _ line shown.2 in
-    let found : Traced = record { sent = shown.0.0; heard = heard.0 } in
+    let found : TraceLine = record { sent = shown.0.0; heard = heard.0 } in
     let same : found ≡ line = value_is found line heard.2 in
     let first : text ≡ a.0.0 ++ 32 ∷ a.0.1 = cut_is text a.0.0 a.0.1 a.1 in
     let spelt : SpellsLine text found = record {
@@ -204,4 +205,4 @@ read_spells text line got =
       frame = sent.frame;
       heard = heard_is shown.0.0.wave shown.0.1 heard.0 heard.1;
     } in
-    subst (λ (l : Traced). SpellsLine text l) same spelt
+    subst (λ (l : TraceLine). SpellsLine text l) same spelt

@@ -6,9 +6,9 @@ use Rattle.hex.specs.Hex.{encode_lower}
 use Rattle.hex.proofs.HexLemmas.{decode_of-encode_lower}
 use Rattle.ep_base.specs.declared.air.Wave.{Wave}
 use Rattle.ep_base.specs.declared.air.Wave.TheVariants.{AShort, ABare, A, B}
-use Rattle.ep_base.specs.Hearing.{Hearing, Silence, Noise, Overlap, Frame}
-use Rattle.ep_base.specs.TraceForm.{SpellsFrame, SpellsHeard, SpellsLine, HoldsFrame, HoldsHeard, HoldsLine}
-use Rattle.ep_base.specs.TraceLine.{Shown, Traced, number_that, number_in, wave_letter, wave_named, frame_spelled, heard_spelled, heard_text, read_shown, read_trace_line, trace_text}
+use Rattle.ep_base.specs.Air.Heard.{Heard, Silence, Noise, Overlap, Frame}
+use Rattle.ep_claim.specs.Text.TraceForm.{SpellsFrame, SpellsHeard, SpellsLine, HoldsFrame, HoldsHeard, HoldsLine}
+use Rattle.ep_claim.specs.Text.TraceLine.{Shown, TraceLine, number_that, number_in, wave_letter, wave_named, frame_spelled, heard_spelled, heard_text, read_shown, read_trace_line, trace_text}
 use Rattle.rf_frame.proofs.Opening.{same_bytes as same_as_itself}
 use Rattle.trace_io.proofs.Words.{NoSpace, cut_word, decimal_has_none, hex_has_none}
 
@@ -41,7 +41,7 @@ frame_read digits bytes s =
     let within : (nat_le 1 (length bytes) && nat_le (length bytes) 256) ≡ true = grind (arith, nat_tests, s.1, s.2) in
     rw s.0 (rw within refl)
 
-heard_read : (sent : Wave) (text : List ℕ) (h : Hearing) → SpellsHeard sent text h → heard_spelled sent text ≡ Some h
+heard_read : (sent : Wave) (text : List ℕ) (h : Heard) → SpellsHeard sent text h → heard_spelled sent text ≡ Some h
 unfolding heard_spelled
 heard_read sent text Silence s = rw s refl
 heard_read sent text Noise s = rw s refl
@@ -73,7 +73,7 @@ pub leaning : (lane letter digits wait answer : List ℕ)
     ≡ (120 ∷ []) ++ 32 ∷ (lane ++ 32 ∷ (letter ++ 32 ∷ (digits ++ 32 ∷ (wait ++ 32 ∷ answer))))
 leaning lane letter digits wait answer = simp append_assoc refl
 
-pub spelt_is_read : (text : List ℕ) (line : Traced) → SpellsLine text line → read_trace_line text ≡ Some line
+pub spelt_is_read : (text : List ℕ) (line : TraceLine) → SpellsLine text line → read_trace_line text ≡ Some line
 unfolding read_trace_line
 spelt_is_read text line s =
     let body = decimal line.sent.lane ++ 32 ∷ (wave_letter line.sent.wave ++ 32 ∷ (s.digits ++ 32 ∷ (decimal line.sent.wait ++ 32 ∷ s.answer))) in
@@ -83,14 +83,14 @@ spelt_is_read text line s =
 frame_held : (bytes : List ℕ) → HoldsFrame bytes → SpellsFrame (encode_lower bytes) bytes
 frame_held bytes h = (decode_of-encode_lower bytes h.0, h.1, h.2)
 
-heard_held : (sent : Wave) (h : Hearing) → HoldsHeard sent h → SpellsHeard sent (heard_text h) h
+heard_held : (sent : Wave) (h : Heard) → HoldsHeard sent h → SpellsHeard sent (heard_text h) h
 heard_held sent Silence holds = refl
 heard_held sent Noise holds = refl
 heard_held sent Overlap holds = refl
 heard_held sent (Frame wave bytes) holds = (holds.0, encode_lower bytes, refl, frame_held bytes holds.1)
 
 -- what is written of an exchange spells it
-pub written_spells : (line : Traced) → HoldsLine line → SpellsLine (trace_text line) line
+pub written_spells : (line : TraceLine) → HoldsLine line → SpellsLine (trace_text line) line
 written_spells line h = record {
   digits = encode_lower line.sent.frame;
   answer = heard_text line.heard;

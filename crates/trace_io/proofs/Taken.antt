@@ -9,8 +9,8 @@ use Rattle.std.proofs.lemmas.Fmt.{decimal_is_IsNumeral, parse-decimal}
 use Rattle.hex.specs.Hex.{decode_of}
 use Rattle.hex.specs.declared.error.FromHexError.{FromHexError}
 use Rattle.hex.proofs.HexLemmas.{decode_of-ok}
-use Rattle.ep_base.specs.Apdu.{same_bytes}
-use Rattle.ep_base.specs.TraceLine.{number_that, number_in, frame_within, frame_spelled, after_equals}
+use Rattle.ep_base.specs.Cards.Apdu.{same_bytes}
+use Rattle.ep_claim.specs.Text.TraceLine.{number_that, number_in, frame_within, frame_spelled, after_equals}
 
 outside : (n : ℕ) → (n < 1) ⊎ (256 < n) → (nat_le 1 n && nat_le n 256) ≡ false
 outside n h = grind (arith, nat_tests)

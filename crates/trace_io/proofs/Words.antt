@@ -15,7 +15,7 @@ use Rattle.std.proofs.Math.Dec.{eqb}
 use Rattle.hex.specs.Hex.{decode_of, is_hex_digit}
 use Rattle.hex.proofs.HexLemmas.{decode_of-ok}
 use Rattle.std.specs.declared.result.Result.TheVariants.{Ok}
-use Rattle.ep_base.specs.TraceLine.{cut, is_space}
+use Rattle.ep_base.specs.Streams.Words.{cut, is_space}
 
 -- No byte of it is a space.
 abbrev pub NoSpace : List ℕ → Type 0

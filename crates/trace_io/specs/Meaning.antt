@@ -1,5 +1,5 @@
 -- What the values of a trace mean, in plain data (this project's own).
-use Rattle.ep_base.specs.TraceLine.{Traced}
+use Rattle.ep_claim.specs.Text.TraceLine.{TraceLine as Traced}
 use Rattle.rf_frame.specs.Meaning.{heard_of}
 use Rattle.trace_io.specs.declared.line.TraceLine.{TraceLine}
 

@@ -1,8 +1,8 @@
 -- The text of the first place at which a run and a trace differ (this project's own).
 use Rattle.std.specs.Prelude.{ℕ, List, ◌++◌, codes, decimal, Some, None}
 use Rattle.std.specs.declared.option.Option.{Option}
-use Rattle.ep_base.specs.ReplayRun.{Mismatch}
-use Rattle.ep_base.specs.TraceLine.{Shown, shown_text}
+use Rattle.ep_claim.specs.Lanes.ReplayRun.{Mismatch}
+use Rattle.ep_claim.specs.Text.TraceLine.{Shown, shown_text}
 
 -- What was sent, or the word for nothing where none is left (this project's own).
 abbrev pub side_text : Option Shown → List ℕ

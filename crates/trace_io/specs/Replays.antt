@@ -1,6 +1,6 @@
 -- What a trace as a medium means, in plain data (this project's own).
 use Rattle.std.specs.Prelude.{map}
-use Rattle.ep_base.specs.ReplayRun.{Replaying}
+use Rattle.ep_claim.specs.Lanes.ReplayRun.{Replaying}
 use Rattle.trace_io.specs.declared.replay.Replay.{Replay}
 use Rattle.trace_io.specs.Meaning.{traced_of}
 

@@ -1,6 +1,7 @@
 //! The fields of a line that is read.
 ghost use Rattle.std.specs.Prelude.{◌≡◌, ◌≤◌, ◌<◌, ◌^◌, length, option_map, IfSome};
-ghost use Rattle.ep_base.specs.TraceLine.{after_equals, answer_wave, cut, frame_spelled, framed_spelled, heard_spelled, number_in, number_that, wave_named};
+ghost use Rattle.ep_claim.specs.Text.TraceLine.{after_equals, answer_wave, frame_spelled, framed_spelled, heard_spelled, number_in, number_that, wave_named};
+ghost use Rattle.ep_base.specs.Streams.Words.{cut};
 ghost use Rattle.rf_frame.specs.Meaning.{heard_of};
 
 use ep_base::{FrameBuf, Wave};
@@ -8,7 +9,7 @@ use itoa::Buffer;
 use rf_frame::Heard;
 
 /// A word, and what stands after the space that ends it.
-#[tactic(auto, unfolding(ep_base::specs::TraceLine::cut))]
+#[tactic(auto, unfolding(ep_base::specs::Streams::Words::cut))]
 pub(crate) fn cut(text: &str) -> Option<(&str, &str)>
     ensures { option_map (λ p. (p.0.now, p.1.now)) result ≡ cut text.now }
 {
@@ -40,7 +41,7 @@ fn number_that(number: u32, text: &str, low: u32, high: u32) -> Option<u32>
 }
 
 /// The wave that has this letter.
-#[tactic(auto, unfolding(ep_base::specs::TraceLine::wave_named))]
+#[tactic(auto, unfolding(ep_claim::specs::Text::TraceLine::wave_named))]
 pub(crate) fn wave_named(letter: &str) -> Option<Wave>
     ensures { result ≡ wave_named letter.now }
 {
@@ -54,7 +55,7 @@ pub(crate) fn wave_named(letter: &str) -> Option<Wave>
 }
 
 /// The frame of 1 to 256 bytes that hexadecimal digits of either case spell.
-#[tactic(auto, unfolding(ep_base::specs::TraceLine::frame_spelled))]
+#[tactic(auto, unfolding(ep_claim::specs::Text::TraceLine::frame_spelled))]
 pub(crate) fn frame_spelled(digits: &str) -> Option<FrameBuf>
     ensures { option_map (λ b. b.items) result ≡ frame_spelled digits.now }
 {
@@ -70,7 +71,7 @@ pub(crate) fn frame_spelled(digits: &str) -> Option<FrameBuf>
 }
 
 /// What a text says was heard after a frame of this wave.
-#[tactic(auto, unfolding(ep_base::specs::TraceLine::heard_spelled))]
+#[tactic(auto, unfolding(ep_claim::specs::Text::TraceLine::heard_spelled))]
 pub(crate) fn heard_spelled(sent: Wave, text: &str) -> Option<Heard>
     ensures { option_map heard_of result ≡ heard_spelled sent text.now }
 {

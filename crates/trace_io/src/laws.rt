@@ -1,6 +1,6 @@
 //! Laws about trace lines and replays, over plain data: each function's contract is a law, and its body is empty.
-ghost use Rattle.ep_base.specs.ReplayRun.{FailsForGood, FailureIsHeld};
-ghost use Rattle.ep_base.specs.TraceForm.{OneReading, WrittenIsRead};
+ghost use Rattle.ep_claim.specs.Lanes.ReplayRun.{FailsForGood, FailureIsHeld};
+ghost use Rattle.ep_claim.specs.Text.TraceForm.{OneReading, WrittenIsRead};
 
 /// A text is read as an exchange exactly where it spells this exchange in the form of a trace line.
 pub fn one_reading()

@@ -1,7 +1,7 @@
 //! An exchange, and its line.
 ghost use Rattle.std.specs.Prelude.{◌≡◌, ◌≤◌, ◌+◌, ◌++◌, [], length};
-ghost use Rattle.ep_base.specs.TraceLine.{heard_text, shown_text, trace_line};
-ghost use Rattle.ep_base.specs.ReplayRun.{same_shown};
+ghost use Rattle.ep_claim.specs.Text.TraceLine.{heard_text, shown_text, trace_line};
+ghost use Rattle.ep_claim.specs.Lanes.ReplayRun.{same_shown};
 ghost use Rattle.rf_frame.specs.Meaning.{heard_of};
 ghost use Rattle.trace_io.specs.Meaning.{traced_of};
 
@@ -24,7 +24,7 @@ pub struct Shown {
 }
 
 impl Model for Shown {
-    ghost use Rattle.ep_base.specs.TraceLine.{Shown};
+    ghost use Rattle.ep_claim.specs.Text.TraceLine.{Shown};
 
     ghost Value = { Shown };
 
@@ -68,7 +68,7 @@ pub struct TraceLine {
 
 /// Writes the line of an exchange, with its newline: the lane, the letter of the wave, the frame with its check bytes,
 /// the waiting number, and what was heard. `out` is empty, and every line fits.
-#[tactic(auto, unfolding(ep_base::specs::TraceLine::trace_line))]
+#[tactic(auto, unfolding(ep_claim::specs::Text::TraceLine::trace_line))]
 pub fn trace_line(line: &TraceLine, out: &mut Line)
     requires { out.old.bytes ≡ [] }
     ensures { out.new.bytes ≡ trace_line (traced_of line.now) }

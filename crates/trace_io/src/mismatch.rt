@@ -19,7 +19,7 @@ pub struct Mismatch {
 }
 
 impl Model for Mismatch {
-    ghost use Rattle.ep_base.specs.ReplayRun.{Mismatch};
+    ghost use Rattle.ep_claim.specs.Lanes.ReplayRun.{Mismatch};
 
     ghost Value = { Mismatch };
 

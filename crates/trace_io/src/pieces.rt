@@ -1,7 +1,7 @@
 //! The pieces of a line. Each is pushed at its end.
 ghost use Rattle.std.specs.Prelude.{◌≡◌, ◌≤◌, ◌+◌, ◌*◌, ◌++◌, length, decimal};
 ghost use Rattle.hex.specs.Hex.{encode_lower};
-ghost use Rattle.ep_base.specs.TraceLine.{wave_letter};
+ghost use Rattle.ep_claim.specs.Text.TraceLine.{wave_letter};
 
 use ep_base::{Line, Wave};
 use itoa::Buffer;

@@ -1,7 +1,7 @@
 //! A trace as a medium.
 ghost use Rattle.std.specs.Prelude.{◌≡◌, ◌↔◌, ◌⊎◌, ◌<◌, length, map, option_map, IfSome, IsSome, is_ok, IsErr, Some, None};
-ghost use Rattle.ep_base.specs.Causes.{HasCause, Rose};
-ghost use Rattle.ep_base.specs.ReplayRun.{at_lane, begun, failing, finishes, next_line, next_place, replays};
+ghost use Rattle.ep_base.specs.Streams.Causes.{HasCause, Rose};
+ghost use Rattle.ep_claim.specs.Lanes.ReplayRun.{at_lane, begun, failing, finishes, next_line, next_place, replays};
 ghost use Rattle.rf_frame.specs.Meaning.{maybe_heard};
 ghost use Rattle.trace_io.specs.Meaning.{traced_of};
 ghost use Rattle.trace_io.specs.Replays.{replaying_of};
@@ -135,8 +135,8 @@ impl Replay {
 }
 
 impl Medium for Replay {
-    ghost use Rattle.ep_base.specs.Medium.{told};
-    ghost use Rattle.ep_base.specs.ReplayRun.{Replaying, replay};
+    ghost use Rattle.ep_base.specs.Air.Medium.{told};
+    ghost use Rattle.ep_claim.specs.Lanes.ReplayRun.{Replaying, replay};
     ghost use Rattle.trace_io.specs.Replays.{replaying_of};
 
     ghost State = { Replaying };

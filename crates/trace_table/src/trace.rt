@@ -27,7 +27,7 @@ pub fn trace_of(alloc: Global, section: &Section) -> Result<Option<Vec<TraceLine
 struct LineText;
 
 impl Read for LineText {
-    ghost use Rattle.ep_base.specs.TraceLine.{Traced};
+    ghost use Rattle.ep_claim.specs.Text.TraceLine.{TraceLine as Traced};
     ghost use Rattle.trace_io.specs.Meaning.{traced_of};
     ghost use Rattle.trace_table.specs.Trace.{line};
 

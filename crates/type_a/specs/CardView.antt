@@ -1,7 +1,7 @@
 -- What a card's fields mean (this project's own).
 use Rattle.std.specs.Prelude.{◌≤◌}
-use Rattle.ep_base.specs.TypeA.{APlan, levels}
-use Rattle.ep_base.specs.TypeA as rule
+use Rattle.ep_base.specs.Cards.TypeA.{APlan, levels}
+use Rattle.ep_base.specs.Cards.TypeA as rule
 use Rattle.type_a.specs.Card.{CardState}
 use Rattle.type_a.specs.Plan.{PlanFits}
 use Rattle.type_a.specs.declared.card.ACard.TheInside.{Inside}

@@ -1,8 +1,8 @@
 -- A reader in a round with a card of Type A (this project's own).
 use Rattle.std.specs.Prelude.{ℕ, List, [], Option, Some, None}
 use Rattle.ep_base.specs.declared.air.Wave.TheVariants.{AShort}
-use Rattle.ep_base.specs.Hearing.{Asked, asks, Hearing, Turn, Ends, Broken}
-use Rattle.ep_base.specs.TypeA.{AStage, Woken, Level, Select, Complete, a_asks, a_says, a_hears}
+use Rattle.ep_base.specs.Air.Heard.{Ask, asks, Heard, Turn, Ends, Broken}
+use Rattle.ep_base.specs.Cards.TypeA.{AStage, Woken, Level, Select, Complete, a_asks, a_says, a_hears}
 
 -- Its FSDI, and what it sent last while the round goes on.
 pub record ReaderState : Type 0 where
@@ -10,12 +10,12 @@ pub record ReaderState : Type 0 where
   pub stage : Option AStage
 
 -- The next frame, where the round goes on.
-abbrev pub asked_in : ℕ → Option AStage → Asked
+abbrev pub asked_in : ℕ → Option AStage → Ask
 asked_in fsdi (Some stage) = a_asks fsdi stage
 asked_in fsdi None = asks AShort []
 
 -- The next frame of a reader (this project's own).
-abbrev pub asked : ReaderState → Asked
+abbrev pub asked : ReaderState → Ask
 asked r = asked_in r.fsdi r.stage
 
 -- What follows a good answer, where the round goes on.
@@ -24,12 +24,12 @@ said (Some stage) message = a_says stage message
 said None message = Ends Broken
 
 -- What follows a hearing, where the round goes on.
-abbrev pub turn_in : Option AStage → Hearing → Turn AStage
+abbrev pub turn_in : Option AStage → Heard → Turn AStage
 turn_in (Some stage) heard = a_hears stage heard
 turn_in None heard = Ends Broken
 
 -- What follows a hearing (this project's own).
-abbrev pub turn : ReaderState → Hearing → Turn AStage
+abbrev pub turn : ReaderState → Heard → Turn AStage
 turn r heard = turn_in r.stage heard
 
 -- A level was selected last.

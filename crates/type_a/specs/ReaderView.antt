@@ -1,6 +1,6 @@
 -- What a reader's fields mean (this project's own).
 use Rattle.std.specs.Prelude.{◌≡◌, ℕ, ◌+◌, ◌*◌, ◌≤◌, ◌<◌, List, length, Option, Some, None}
-use Rattle.ep_base.specs.TypeA.{AStage, Woken, Level, Select, Complete}
+use Rattle.ep_base.specs.Cards.TypeA.{AStage, Woken, Level, Select, Complete}
 use Rattle.type_a.specs.Reader.{ReaderState}
 use Rattle.type_a.specs.declared.reader.AReader.TheInside.{Inside}
 use Rattle.type_a.specs.declared.reader.Step.{Step}

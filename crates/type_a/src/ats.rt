@@ -1,14 +1,14 @@
 //! Answers to RATS.
 ghost use Rattle.std.specs.Prelude.{◌≡◌, IfOk};
-ghost use Rattle.ep_base.specs.Activation.{ats};
-ghost use Rattle.ep_base.specs.CardLimits.{AreLimits};
+ghost use Rattle.ep_base.specs.Cards.Activation.{ats};
+ghost use Rattle.ep_base.specs.Cards.CardLimits.{AreLimits};
 
 use ep_base::{Ats, AtsFault, bit, frame_size, waiting};
 
 /// What an ATS says (ISO/IEC 14443-4): TL, which counts all bytes, T0, the interface bytes that it announces, and
 /// historical bytes. Without T0 the frame size is 32 bytes, without TB the frame waiting time integer 4. `LengthWrong`
 /// comes before `Cut`.
-#[tactic(auto, unfolding(ep_base::specs::Activation::ats, ep_base::specs::FrameSize::frame_size))]
+#[tactic(auto, unfolding(ep_base::specs::Cards::Activation::ats, ep_base::specs::Air::FrameSize::frame_size))]
 pub fn parse_ats(payload: &[u8]) -> Result<Ats, AtsFault>
     ensures says { result ≡ ats payload.now }
     ensures limits { IfOk result (λ a. AreLimits a.fsc a.fwi) }

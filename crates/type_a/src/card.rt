@@ -1,6 +1,6 @@
 //! The card's side, outside the block protocol.
 ghost use Rattle.std.specs.Prelude.{◌≡◌, ◌≢◌};
-ghost use Rattle.ep_base.specs.TypeA.{a_card, a_takes, a_ready, a_select, a_active, Idle, Ready, Halted, Active, Protocol};
+ghost use Rattle.ep_base.specs.Cards.TypeA.{a_card, a_takes, a_ready, a_select, a_active, Idle, Ready, Halted, Active, Protocol};
 ghost use Rattle.rf_frame.specs.Meaning.{card_hear_of, reply_of};
 ghost use Rattle.type_a.specs.Plan.{PlanFits};
 
@@ -131,7 +131,7 @@ impl ACard {
     }
 
     /// A good frame's message, outside the block protocol.
-    #[tactic(auto, unfolding(ep_base::specs::TypeA::a_takes))]
+    #[tactic(auto, unfolding(ep_base::specs::Cards::TypeA::a_takes))]
     fn takes(&mut self, wave: Wave, message: &[u8], sent: &mut Sent) -> CardDoes
         requires out { self.old.state ≢ Protocol }
         ensures plan { self.new.plan ≡ self.old.plan }

@@ -1,7 +1,7 @@
 //! What a card of Type A is made of.
 ghost use Rattle.std.specs.Prelude.{◌≡◌, ◌≤◌, length};
-ghost use Rattle.ep_base.specs.Hearing.{framed};
-ghost use Rattle.ep_base.specs.TypeA.{levels as levels_of, level_part as level_part_of, ats_of};
+ghost use Rattle.ep_base.specs.Air.Heard.{framed};
+ghost use Rattle.ep_base.specs.Cards.TypeA.{levels as levels_of, level_part as level_part_of, ats_of};
 ghost use Rattle.type_a.specs.Plan.{PlanFits};
 
 use crate::reader::bcc;
@@ -25,7 +25,7 @@ pub struct APlan {
 }
 
 impl Model for APlan {
-    ghost use Rattle.ep_base.specs.TypeA.{APlan};
+    ghost use Rattle.ep_base.specs.Cards.TypeA.{APlan};
 
     ghost Value = { APlan };
 

@@ -1,9 +1,9 @@
 //! The reader's side: anticollision, selection and RATS, one frame at a time.
 ghost use Rattle.std.specs.Prelude.{◌≡◌, ◌≤◌, ◌<◌, IsSome, IfSome, length};
-ghost use Rattle.ep_base.specs.CardLimits.{EndsInLimits};
+ghost use Rattle.ep_base.specs.Cards.CardLimits.{EndsInLimits};
 ghost use Rattle.std.specs.Option.{IsNone};
-ghost use Rattle.ep_base.specs.Hearing.{place_of, end_of};
-ghost use Rattle.ep_base.specs.TypeA.{sel as sel_of, bcc as bcc_of, is_level as is_level_of, Woken};
+ghost use Rattle.ep_base.specs.Air.Heard.{place_of, end_of};
+ghost use Rattle.ep_base.specs.Cards.TypeA.{sel as sel_of, bcc as bcc_of, is_level as is_level_of, Woken};
 ghost use Rattle.rf_frame.specs.Meaning.{heard_of, maybe_end, round_end_of};
 ghost use Rattle.type_a.specs.Reader.{asked, said, turn, IsSelect, IsComplete};
 

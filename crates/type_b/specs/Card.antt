@@ -1,7 +1,7 @@
 -- A card of Type B outside the block protocol (this project's own).
 use Rattle.std.specs.Prelude.{◌<◌}
-use Rattle.ep_base.specs.TypeB.{BState}
-use Rattle.ep_base.specs.TypeB as rule
+use Rattle.ep_base.specs.Cards.TypeB.{BState}
+use Rattle.ep_base.specs.Cards.TypeB as rule
 use Rattle.type_b.specs.declared.card.BPlan.{BPlan}
 
 -- What it is made of, and where it stands.

@@ -1,5 +1,5 @@
 -- What a card's fields mean (this project's own).
-use Rattle.ep_base.specs.TypeB as rule
+use Rattle.ep_base.specs.Cards.TypeB as rule
 use Rattle.type_b.specs.Card.{CardState, PlanFits, plan_of}
 use Rattle.type_b.specs.declared.card.BCard.TheInside.{Inside}
 use Rattle.type_b.specs.declared.card.Place.{Place}

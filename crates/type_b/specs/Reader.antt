@@ -1,8 +1,8 @@
 -- A reader in a round with a card of Type B (this project's own).
 use Rattle.std.specs.Prelude.{ℕ, [], Option, Some, None}
 use Rattle.ep_base.specs.declared.air.Wave.TheVariants.{B}
-use Rattle.ep_base.specs.Hearing.{Asked, asks, Hearing, Turn, Ends, Broken}
-use Rattle.ep_base.specs.TypeB.{BStage, b_asks, b_hears}
+use Rattle.ep_base.specs.Air.Heard.{Ask, asks, Heard, Turn, Ends, Broken}
+use Rattle.ep_base.specs.Cards.TypeB.{BStage, b_asks, b_hears}
 
 -- It waits for the answer to WUPB, or ATTRIB is its next frame or was sent last, or the round is over.
 pub data Place : Type 0 where
@@ -33,21 +33,21 @@ place_at (Some stage) = At stage
 place_at None = Over
 
 -- The next frame, where the round goes on.
-abbrev pub asked_in : ℕ → Place → Asked
+abbrev pub asked_in : ℕ → Place → Ask
 asked_in fsdi New = asks B []
 asked_in fsdi (At stage) = b_asks fsdi stage
 asked_in fsdi Over = asks B []
 
 -- The next frame of a reader (this project's own).
-abbrev pub asked : ReaderState → Asked
+abbrev pub asked : ReaderState → Ask
 asked r = asked_in r.fsdi r.place
 
 -- What follows a hearing, where the round goes on.
-abbrev pub turn_in : Place → Hearing → Turn BStage
+abbrev pub turn_in : Place → Heard → Turn BStage
 turn_in New heard = Ends Broken
 turn_in (At stage) heard = b_hears stage heard
 turn_in Over heard = Ends Broken
 
 -- What follows a hearing (this project's own).
-abbrev pub turn : ReaderState → Hearing → Turn BStage
+abbrev pub turn : ReaderState → Heard → Turn BStage
 turn r heard = turn_in r.place heard

@@ -1,6 +1,6 @@
 -- What a reader's fields mean (this project's own).
 use Rattle.std.specs.Prelude.{ℕ, ◌<◌, List}
-use Rattle.ep_base.specs.CardLimits.{AreLimits}
+use Rattle.ep_base.specs.Cards.CardLimits.{AreLimits}
 use Rattle.type_b.specs.Reader.{ReaderState, Place, New, At, Over}
 use Rattle.type_b.specs.declared.reader.BReader.TheInside.{Inside}
 use Rattle.type_b.specs.declared.reader.Step.{Step}

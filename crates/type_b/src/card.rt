@@ -1,7 +1,7 @@
 //! The card's side, outside the block protocol.
 ghost use Rattle.std.specs.Prelude.{◌≡◌, ◌≢◌};
-ghost use Rattle.ep_base.specs.Hearing.{framed};
-ghost use Rattle.ep_base.specs.TypeB.{b_card, b_takes, b_ready, atqb_of, BIdle, BReady, BProtocol};
+ghost use Rattle.ep_base.specs.Air.Heard.{framed};
+ghost use Rattle.ep_base.specs.Cards.TypeB.{b_card, b_takes, b_ready, atqb_of, BIdle, BReady, BProtocol};
 ghost use Rattle.rf_frame.specs.Meaning.{card_hear_of, reply_of};
 ghost use Rattle.type_b.specs.Card.{PlanFits, plan_of};
 
@@ -117,7 +117,7 @@ impl BCard {
     }
 
     /// A good frame's message, outside the block protocol.
-    #[tactic(auto, unfolding(ep_base::specs::TypeB::b_takes))]
+    #[tactic(auto, unfolding(ep_base::specs::Cards::TypeB::b_takes))]
     fn takes(&mut self, wave: Wave, message: &[u8], sent: &mut Sent) -> CardDoes
         requires out { self.old.state ≢ BProtocol }
         ensures plan { self.new.plan ≡ self.old.plan }

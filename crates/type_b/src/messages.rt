@@ -1,14 +1,14 @@
 //! ATQB and ATTRIB.
 ghost use Rattle.std.specs.Prelude.{◌≡◌, length, IfOk};
-ghost use Rattle.ep_base.specs.Activation.{atqb};
-ghost use Rattle.ep_base.specs.CardLimits.{AreLimits};
-ghost use Rattle.ep_base.specs.TypeB.{attrib_of};
+ghost use Rattle.ep_base.specs.Cards.Activation.{atqb};
+ghost use Rattle.ep_base.specs.Cards.CardLimits.{AreLimits};
+ghost use Rattle.ep_base.specs.Cards.TypeB.{attrib_of};
 
 use ep_base::{Atqb, AtqbFault, Buf, bit, frame_size, waiting};
 
 /// What an ATQB says (ISO/IEC 14443-3): 50h, PUPI, four bytes of application data, three of protocol info. `LengthWrong`
 /// comes before `NotAtqb`.
-#[tactic(auto, unfolding(ep_base::specs::Activation::atqb))]
+#[tactic(auto, unfolding(ep_base::specs::Cards::Activation::atqb))]
 pub fn parse_atqb(payload: &[u8]) -> Result<Atqb, AtqbFault>
     ensures says { result ≡ atqb payload.now }
     ensures limits { IfOk result (λ a. AreLimits a.fsc a.fwi) }

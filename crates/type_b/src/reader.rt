@@ -1,9 +1,9 @@
 //! The reader's side: ATQB and ATTRIB.
 ghost use Rattle.std.specs.Prelude.{◌≡◌, ◌<◌, IsSome, IfSome, None};
-ghost use Rattle.ep_base.specs.CardLimits.{EndsInLimits};
+ghost use Rattle.ep_base.specs.Cards.CardLimits.{EndsInLimits};
 ghost use Rattle.std.specs.Option.{IsNone};
-ghost use Rattle.ep_base.specs.Hearing.{place_of, end_of};
-ghost use Rattle.ep_base.specs.TypeB.{b_found};
+ghost use Rattle.ep_base.specs.Air.Heard.{place_of, end_of};
+ghost use Rattle.ep_base.specs.Cards.TypeB.{b_found};
 ghost use Rattle.rf_frame.specs.Meaning.{heard_of, maybe_end, round_end_of};
 ghost use Rattle.type_b.specs.Reader.{asked, turn, stage_at, New, place_at, IsNew};
 

@@ -1,7 +1,7 @@
 use Rattle.std.proofs.Common.{◌≤◌, length, sym, ap, ◌∙◌, arith}
 use Rattle.std.specs.Option.{option_map}
-use Rattle.ep_base.specs.Apdu.{data_of}
-use Rattle.ep_base.specs.Reading.{forest_of}
+use Rattle.ep_base.specs.Cards.Apdu.{data_of}
+use Rattle.ep_base.specs.Objects.Reading.{forest_of}
 use Rattle.ppse.proofs.Path.{data_fit, directory_not, directory_is, no_template, no_proprietary, to_entries, IfSome-map}
 use Rattle.ppse.proofs.listing.Goals as goal
 

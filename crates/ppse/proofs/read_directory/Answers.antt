@@ -1,8 +1,8 @@
 use Rattle.std.proofs.Common.{ℕ, length, sym, ap, ◌∙◌, arith}
 use Rattle.std.specs.List.{count_by}
-use Rattle.ep_base.specs.Arena.{Object, Contents, live_bytes, value_in}
-use Rattle.ep_base.specs.Reading.{forest_of}
-use Rattle.ep_base.specs.Directory.{entries_of, is_named, held_from}
+use Rattle.ep_base.specs.Objects.Arena.{Object, Contents, live_bytes, value_in}
+use Rattle.ep_base.specs.Objects.Reading.{forest_of}
+use Rattle.ep_base.specs.Objects.Directory.{entries_of, is_named, held_from}
 use Rattle.ppse.proofs.Costs.{named_within}
 use Rattle.ppse.proofs.Spare.{load_entries, kept_entries}
 use Rattle.ppse.proofs.Groups.{held}

@@ -1,6 +1,6 @@
 use Rattle.std.proofs.Common.{◌≤◌, List, length}
-use Rattle.law_round.specs.Lawful.{ArePlaced, AreApart, names}
-use Rattle.law_radio.specs.OverRadio.{AreDistinct, numbers}
+use Rattle.ep_base.specs.Cards.Lawful.{ArePlaced, AreApart, names}
+use Rattle.ep_base.specs.Cards.Numbers.{AreDistinct, numbers}
 use Rattle.doc_table.specs.Section.{place}
 use Rattle.card_table.specs.Cards.{Card}
 use Rattle.card_table.specs.Placing.{placed_from}

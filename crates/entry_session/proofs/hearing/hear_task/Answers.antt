@@ -1,5 +1,5 @@
 use Rattle.std.proofs.Common.{◌≡◌, ℕ, List, ◌++◌, Option, Some, None, sym, subst, ◌∙◌}
-use Rattle.law_lane.specs.Standing.{after_hearing, events_of}
+use Rattle.ep_claim.specs.Lanes.Standing.{after_hearing, events_of}
 use Rattle.poll_activate.specs.Meaning.{ends_of}
 use Rattle.rf_frame.specs.Meaning.{heard_of}
 use Rattle.session_phases.specs.Stands.{StepStands, link_held}

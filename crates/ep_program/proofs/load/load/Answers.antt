@@ -1,6 +1,6 @@
 use Rattle.std.proofs.Common.{◌≡◌, ◌∙◌, subst}
 use Rattle.std.specs.Io.KnownBytes.{Appends}
-use Rattle.ep_base.specs.Io.{AppendsPrefix}
+use Rattle.ep_base.specs.Streams.Io.{AppendsPrefix}
 use Rattle.load_run.specs.Summary.{summary_line_of}
 use Rattle.ep_program.proofs.Loading.{is_summary}
 use Rattle.ep_program.proofs.load.load.Goals as goal

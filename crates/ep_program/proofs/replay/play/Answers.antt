@@ -1,6 +1,6 @@
 use Rattle.std.proofs.Common.{◌≡◌, ◌≤◌, ◌∙◌, List, All, length, map, ap, subst, sym, option_map, Some, None, Ok}
-use Rattle.ep_base.specs.Kernel.{Scripted}
-use Rattle.ep_base.specs.ReplayRun.{Replaying}
+use Rattle.ep_rules.specs.EntryPoint.Kernel.{Scripted}
+use Rattle.ep_claim.specs.Lanes.ReplayRun.{Replaying}
 use Rattle.ep_lanes.specs.Lanes.{Held}
 use Rattle.lane_replay.specs.Ends.{Ended}
 use Rattle.scenario.specs.Scene.{Work, Scene}

@@ -1,5 +1,5 @@
 use Rattle.std.proofs.Common.{◌≤◌, ◌∙◌, List, All, length, ap, subst, sym}
-use Rattle.ep_base.specs.Kernel.{Scripted}
+use Rattle.ep_rules.specs.EntryPoint.Kernel.{Scripted}
 use Rattle.ep_lanes.specs.Lanes.{Held}
 use Rattle.scenario.specs.Scene.{Work, Scene}
 use Rattle.ep_program.specs.Headline.{IsFresh, IsReady}

@@ -1,5 +1,5 @@
 use Rattle.rf_field.specs.Meaning.{passages}
-use Rattle.ep_base.specs.Air.{ArePassages}
+use Rattle.ep_base.specs.Air.Fates.{ArePassages}
 use Rattle.doc_table.specs.Section.{place}
 use Rattle.fate_table.specs.Fates.{fates_at}
 use Rattle.fate_table.proofs.Accepted.{if_given, fates_given, runs_given, accepted_fates}

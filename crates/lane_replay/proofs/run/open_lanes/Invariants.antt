@@ -1,10 +1,10 @@
 use Rattle.std.proofs.Common.{◌≡◌, ◌≤◌, ◌+◌, ℕ, List, drop, Option}
 use Rattle.std.specs.Prelude.{is_some}
 use Rattle.std.specs.Io.KnownBytes.{Appends}
-use Rattle.ep_base.specs.Io.{AppendsPrefix}
+use Rattle.ep_base.specs.Streams.Io.{AppendsPrefix}
 use Rattle.lane_report.specs.Shows.{held_of}
 use Rattle.lane_replay.specs.Shows.{all_talks}
-use Rattle.lane_replay.specs.WholeReplay.{opening_text}
+use Rattle.ep_claim.specs.Lanes.WholeReplay.{opening_text}
 use Rattle.lane_replay.proofs.Opened.{Opening}
 use Rattle.lane_replay.proofs.run.open_lanes.Given as goal
 

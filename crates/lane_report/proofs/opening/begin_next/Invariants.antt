@@ -1,7 +1,7 @@
 use Rattle.std.proofs.Common.{◌≡◌, ◌≢◌, ◌≤◌, ℕ, List, length, true, false}
 use Rattle.std.specs.Prelude.{Option, None, is_some}
 use Rattle.std.specs.Io.KnownBytes.{Appends}
-use Rattle.ep_base.specs.Io.{AppendsPrefix}
+use Rattle.ep_base.specs.Streams.Io.{AppendsPrefix}
 use Rattle.ep_lanes.specs.Lanes.{count_of, has_open, is_live, lane_of}
 use Rattle.lane_report.specs.Shows.{held_of}
 use Rattle.lane_report.proofs.Beginning.{here}

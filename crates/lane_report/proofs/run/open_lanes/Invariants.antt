@@ -1,8 +1,8 @@
 use Rattle.std.proofs.Common.{◌≡◌, ◌≤◌, ◌+◌, ℕ, List, drop, Option}
 use Rattle.std.specs.Prelude.{is_some}
 use Rattle.std.specs.Io.KnownBytes.{Appends}
-use Rattle.ep_base.specs.Io.{AppendsPrefix}
-use Rattle.law_turns.specs.WholeRun.{opening_text}
+use Rattle.ep_base.specs.Streams.Io.{AppendsPrefix}
+use Rattle.ep_claim.specs.Lanes.WholeRun.{opening_text}
 use Rattle.lane_report.specs.Shows.{held_of}
 use Rattle.lane_report.specs.Works.{all_jobs}
 use Rattle.lane_report.proofs.Opened.{Opening}

@@ -1,15 +1,15 @@
 use Rattle.std.proofs.Common.{rules, arith, ◌≡◌, ◌≤◌, refl, sym, subst, List, [], ◌∷◌, length, All}
 use Rattle.std.proofs.lemmas.List.Elements.{All-nil, All-cons}
-use Rattle.ep_base.specs.Configuration.{Settings}
+use Rattle.ep_rules.specs.EntryPoint.Configuration.{Config}
 use Rattle.scenario.specs.Scene.{Work}
 use Rattle.lane_report.specs.Reports.{IsFew, IsNewWork}
 use Rattle.lane_report.specs.Works.{LaneWork, new_work}
 use Rattle.lane_report.proofs.tests.works.Goals as goal
 
-is_new : (settings : Settings) (jobs : List Work) → length jobs ≤ 64 → All (IsFew settings) jobs → IsNewWork settings (new_work jobs)
+is_new : (settings : Config) (jobs : List Work) → length jobs ≤ 64 → All (IsFew settings) jobs → IsNewWork settings (new_work jobs)
 is_new settings jobs short few = record { none = refl; first = refl; short = short; few = few }
 
-all_new : (settings : Settings) (works : List LaneWork) (a b d : Work) → works ≡ new_work (a ∷ b ∷ []) ∷ new_work (d ∷ []) ∷ []
+all_new : (settings : Config) (works : List LaneWork) (a b d : Work) → works ≡ new_work (a ∷ b ∷ []) ∷ new_work (d ∷ []) ∷ []
     → IsFew settings a → IsFew settings b → IsFew settings d → All (IsNewWork settings) works
 all_new settings works a b d e fa fb fd =
     subst (All (IsNewWork settings)) (sym e)

@@ -1,7 +1,7 @@
 use Rattle.std.proofs.Common.{rules, arith, ◌∙◌, ap}
 use Rattle.std.specs.Io.KnownBytes.{Appends}
-use Rattle.ep_base.specs.ReportLine.{line_of}
-use Rattle.ep_base.specs.WrittenText.{event_lines}
+use Rattle.ep_claim.specs.Text.ReportLine.{line_of}
+use Rattle.ep_claim.specs.Text.WrittenText.{event_lines}
 use Rattle.session_event.specs.Event.{said_of}
 use Rattle.session_phases.specs.Told.{told_by}
 use Rattle.lane_report.proofs.Appending.{whole_next, part_next}

@@ -1,8 +1,8 @@
 use Rattle.std.proofs.Common.{◌≡◌, ◌≤◌, ℕ, List, length, Option}
 use Rattle.std.specs.Prelude.{is_some}
 use Rattle.std.specs.Io.KnownBytes.{Appends}
-use Rattle.ep_base.specs.Io.{AppendsPrefix}
-use Rattle.ep_base.specs.WrittenText.{event_lines}
+use Rattle.ep_base.specs.Streams.Io.{AppendsPrefix}
+use Rattle.ep_claim.specs.Text.WrittenText.{event_lines}
 use Rattle.session_phases.specs.Told.{told_by}
 use Rattle.lane_report.proofs.writing.write_events.Given as goal
 

@@ -1,7 +1,7 @@
 use Rattle.std.proofs.Common.{rules, arith, ◌∙◌, ap}
 use Rattle.std.specs.Io.KnownBytes.{Appends}
-use Rattle.ep_base.specs.ReportLine.{log_line}
-use Rattle.ep_base.specs.WrittenText.{log_lines}
+use Rattle.ep_claim.specs.Text.ReportLine.{log_line}
+use Rattle.ep_claim.specs.Text.WrittenText.{log_lines}
 use Rattle.lane_report.proofs.Appending.{whole_next, part_next}
 use Rattle.lane_report.proofs.writing.write_log.Goals as goal
 

@@ -1,6 +1,6 @@
 use Rattle.std.proofs.Common.{Some, None, Ok, Err, subst, ◌∙◌, arith}
-use Rattle.ep_base.specs.Hearing.{Asked}
-use Rattle.ep_base.specs.ReaderEnd.{begin}
+use Rattle.ep_base.specs.Air.Heard.{Ask as Asked}
+use Rattle.ep_base.specs.Link.ReaderEnd.{begin}
 use Rattle.rf_frame.specs.Meaning.{heard_of}
 use Rattle.block_reader.specs.declared.ends.Next.TheVariants.{Ask, Done, Failed}
 use Rattle.block_reader.specs.declared.ends.LinkEnd.TheVariants.{Device}

@@ -1,5 +1,5 @@
 use Rattle.std.proofs.Common.{◌≡◌, ◌≤◌, true}
-use Rattle.ep_base.specs.ReaderEnd.{Reader, begin}
+use Rattle.ep_base.specs.Link.ReaderEnd.{Reader, begin}
 use Rattle.block_reader.specs.Stands.{held, is_open, left_of, Rests}
 use Rattle.link.proofs.Following.{Going}
 use Rattle.link.proofs.carrying.carry.Given as goal

@@ -1,5 +1,5 @@
 use Rattle.std.proofs.Common.{◌≡◌, drop}
-use Rattle.ep_base.specs.Radio.{has_collision}
+use Rattle.ep_base.specs.Poll.Radio.{has_collision}
 use Rattle.poll_activate.specs.Meaning.{ends_of}
 use Rattle.link.proofs.radio.collided.Given as goal
 

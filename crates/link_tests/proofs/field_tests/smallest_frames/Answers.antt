@@ -1,8 +1,8 @@
 use Rattle.std.proofs.Common.{rules, ◌≡◌, true, [], ◌∷◌, sym, subst}
-use Rattle.ep_base.specs.Field.{Field, Placed, placed_b, new_field}
-use Rattle.ep_base.specs.TypeB.{BPlan}
+use Rattle.ep_base.specs.Cards.Field.{Field, Placed, placed_b, new_field}
+use Rattle.ep_base.specs.Cards.TypeB.{BPlan}
 use Rattle.law_round.proofs.Lawfulness.{begins_lawful_law}
-use Rattle.law_round.specs.Lawful.{Bytes, Lawful}
+use Rattle.ep_base.specs.Cards.Lawful.{Bytes, Lawful}
 use Rattle.rf_field.specs.Fields.{field_of}
 use Rattle.rf_field.specs.Meaning.{passages}
 use Rattle.link_tests.proofs.Ready.{all_fates}

@@ -1,6 +1,6 @@
 use Rattle.std.proofs.Common.{◌≡◌, ◌-◌, suc, arith, sym, ◌∙◌}
 use Rattle.arrayvec.specs.ArrayVec.{array_vec_len}
-use Rattle.ep_base.specs.Polling.{PlaysRounds}
+use Rattle.ep_base.specs.Poll.Polling.{PlaysRounds}
 use Rattle.rf_frame.specs.Meaning.{round_end_of}
 use Rattle.poll_activate.specs.Meaning.{ends_of}
 use Rattle.poll_activate.proofs.Repeating.{found, lost, none, one_more, ends_more, without_more}

@@ -2,7 +2,7 @@ use Rattle.std.proofs.Common.{◌≡◌, ◌≤◌, ◌-◌, true}
 use Rattle.std.specs.Prelude.{is_none}
 use Rattle.std.specs.List.{list_all}
 use Rattle.arrayvec.specs.ArrayVec.{array_vec_len}
-use Rattle.ep_base.specs.Polling.{PlaysRounds, card_in}
+use Rattle.ep_base.specs.Poll.Polling.{PlaysRounds, card_in}
 use Rattle.poll_activate.specs.Meaning.{ends_of}
 use Rattle.poll_activate.proofs.Repeating.{Onward}
 use Rattle.poll_activate.proofs.polling.poll.Given as goal

@@ -1,6 +1,6 @@
 use Rattle.std.proofs.Common.{sym, ap, ◌∙◌, arith}
 use Rattle.std.proofs.lemmas.Result.{err_from_is_err_and}
-use Rattle.ep_base.specs.Polling.{PlaysRound}
+use Rattle.ep_base.specs.Poll.Polling.{PlaysRound}
 use Rattle.rf_frame.specs.Meaning.{heard_of, maybe_end, round_end_of}
 use Rattle.poll_activate.proofs.Rounding.{next, last, lost}
 use Rattle.poll_activate.proofs.polling.round.Goals as goal

@@ -1,5 +1,5 @@
 use Rattle.std.proofs.Common.{◌≡◌, ◌≤◌}
-use Rattle.ep_base.specs.Polling.{PlaysRound}
+use Rattle.ep_base.specs.Poll.Polling.{PlaysRound}
 use Rattle.poll_activate.proofs.Rounding.{From, left_at}
 use Rattle.poll_activate.proofs.polling.round.Given as goal
 

@@ -1,7 +1,7 @@
 use Rattle.std.proofs.Common.{◌≡◌, ◌+◌, ◌≤◌, true, List, ◌∷◌, length, refl, sym, ap, subst, ◌∙◌, arith}
 use Rattle.ep_base.specs.declared.objects.Node.{Node}
-use Rattle.ep_base.specs.Reading.{forest_of}
-use Rattle.ep_base.specs.Directory.{Entry, entries_of, with_entries}
+use Rattle.ep_base.specs.Objects.Reading.{forest_of}
+use Rattle.ep_base.specs.Objects.Directory.{Entry, entries_of, with_entries}
 use Rattle.tlv_core.specs.Nodes.{AllWithin}
 use Rattle.ppse.specs.Listing.{is_top, value_at, entry_in, entries_at}
 use Rattle.ppse.specs.Room.{HasSpare, entry_cost, entries_cost}

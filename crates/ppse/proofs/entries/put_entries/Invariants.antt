@@ -1,5 +1,5 @@
 use Rattle.std.proofs.Common.{◌≡◌, ◌+◌, ◌≤◌, length}
-use Rattle.ep_base.specs.Directory.{with_entries}
+use Rattle.ep_base.specs.Objects.Directory.{with_entries}
 use Rattle.ppse.specs.Listing.{entries_at}
 use Rattle.ppse.specs.Room.{entries_cost, HasSpare}
 use Rattle.tlv_core.specs.Nodes.{AllWithin}

@@ -1,5 +1,5 @@
 use Rattle.std.proofs.Common.{◌+◌, arith}
-use Rattle.ep_base.specs.Reading.{forest_of}
+use Rattle.ep_base.specs.Objects.Reading.{forest_of}
 use Rattle.ppse.specs.Listing.{entry_in}
 use Rattle.ppse.specs.Room.{value_cost, entry_cost}
 use Rattle.ppse.proofs.Spare.{spare_step, spare_less}

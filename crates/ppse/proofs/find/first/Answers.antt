@@ -1,6 +1,6 @@
 use Rattle.std.proofs.Common.{ap, ◌∙◌, length, arith}
 use Rattle.std.specs.Option.{option_map}
-use Rattle.ep_base.specs.Reading.{forest_of}
+use Rattle.ep_base.specs.Objects.Reading.{forest_of}
 use Rattle.ppse.specs.Listing.{is_top, value_at}
 use Rattle.ppse.proofs.Nodes.{first_read, next_within}
 use Rattle.ppse.proofs.find.first.Goals as goal

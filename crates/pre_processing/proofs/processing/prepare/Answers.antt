@@ -1,7 +1,7 @@
 use Rattle.std.proofs.Common.{◌≡◌, ◌==◌, true, arith, subst}
 use Rattle.std.proofs.lemmas.Bool.Decides.{nat_tests}
-use Rattle.ep_base.specs.Configuration.{Combination}
-use Rattle.ep_base.specs.PreProcessing.{prepared_one}
+use Rattle.ep_rules.specs.EntryPoint.Configuration.{Combination}
+use Rattle.ep_rules.specs.EntryPoint.PreProcessing.{prepared_one}
 use Rattle.pre_processing.proofs.Room.{room_left}
 use Rattle.pre_processing.proofs.processing.prepare.Goals as goal
 

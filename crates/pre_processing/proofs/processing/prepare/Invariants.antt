@@ -1,6 +1,6 @@
 use Rattle.std.proofs.Common.{◌≡◌, ◌==◌, ◌++◌, map, filter, drop}
-use Rattle.ep_base.specs.Configuration.{Combination}
-use Rattle.ep_base.specs.PreProcessing.{prepared_one}
+use Rattle.ep_rules.specs.EntryPoint.Configuration.{Combination}
+use Rattle.ep_rules.specs.EntryPoint.PreProcessing.{prepared_one}
 use Rattle.pre_processing.proofs.processing.prepare.Given as goal
 
 -- what is listed, and what the rest gives, are the whole

@@ -1,5 +1,5 @@
 use Rattle.std.proofs.Common.{◌≡◌, ◌≤◌, Some, map, take, ap, ◌∙◌, arith}
-use Rattle.ep_base.specs.RawBytes.{Block, block}
+use Rattle.ep_base.specs.Objects.RawBytes.{Block, block}
 use Rattle.raw_block.specs.Filling.{filled}
 use Rattle.raw_block.proofs.RawBlock.cut.Goals as goal
 use Rattle.raw_block.proofs.Bytes.{of_run, shortened, count}

@@ -1,6 +1,6 @@
 use Rattle.std.proofs.Common.{◌≡◌, ◌+◌, ◌<◌, [], ◌∷◌, ◌++◌, Some, map, length, take, ap, ◌∙◌, arith}
 use Rattle.std.proofs.lemmas.List.{length-set}
-use Rattle.ep_base.specs.RawBytes.{Block, block}
+use Rattle.ep_base.specs.Objects.RawBytes.{Block, block}
 use Rattle.raw_block.specs.Filling.{filled}
 use Rattle.raw_block.proofs.RawBlock.push.Goals as goal
 use Rattle.raw_block.proofs.Bytes.{of_run, pushed, count}

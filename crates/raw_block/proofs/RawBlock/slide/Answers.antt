@@ -1,5 +1,5 @@
 use Rattle.std.proofs.Common.{◌≡◌, ◌+◌, ◌<◌, Some, length, slice_get, slice_set, sym, ap, ◌∙◌, arith}
-use Rattle.ep_base.specs.RawBytes.{Block, slid}
+use Rattle.ep_base.specs.Objects.RawBytes.{Block, slid}
 use Rattle.raw_block.proofs.RawBlock.slide.Goals as goal
 use Rattle.raw_block.proofs.Bytes.{slid-more}
 

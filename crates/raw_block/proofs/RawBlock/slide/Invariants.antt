@@ -1,5 +1,5 @@
 use Rattle.std.proofs.Common.{◌≡◌}
-use Rattle.ep_base.specs.RawBytes.{slid}
+use Rattle.ep_base.specs.Objects.RawBytes.{slid}
 use Rattle.raw_block.proofs.RawBlock.slide.Given as goal
 
 abbrev pub invariant-loop-i : goal.invariant-loop-i

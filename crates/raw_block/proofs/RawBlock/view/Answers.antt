@@ -1,5 +1,5 @@
 use Rattle.std.proofs.Common.{◌≡◌, ◌+◌, ◌≤◌, Some, map, take, sym, ap, ◌∙◌, arith}
-use Rattle.ep_base.specs.RawBytes.{Block}
+use Rattle.ep_base.specs.Objects.RawBytes.{Block}
 use Rattle.raw_block.proofs.RawBlock.view.Goals as goal
 use Rattle.raw_block.proofs.Bytes.{viewed, count}
 

@@ -1,5 +1,5 @@
 use Rattle.std.proofs.Common.{codes, decimal, not}
-use Rattle.ep_base.specs.ReportLine.{hex, truth, ttq_text}
+use Rattle.ep_claim.specs.Text.ReportLine.{hex, truth, ttq_text}
 use Rattle.report_text.proofs.Joined.{joined}
 use Rattle.report_text.proofs.prepared.push_prepared.Goals as goal
 

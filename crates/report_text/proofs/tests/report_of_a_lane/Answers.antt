@@ -1,7 +1,7 @@
 use Rattle.std.proofs.Common.{refl}
 use Rattle.std.specs.Fmt.{digits}
 use Rattle.hex.specs.Hex.{encode_with}
-use Rattle.ep_base.specs.ReportLine.{line_of, log_line}
+use Rattle.ep_claim.specs.Text.ReportLine.{line_of, log_line}
 use Rattle.report_text.proofs.tests.report_of_a_lane.Goals as goal
 
 pub returns : goal.returns

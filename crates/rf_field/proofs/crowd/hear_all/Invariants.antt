@@ -1,5 +1,5 @@
 use Rattle.std.proofs.Common.{◌≡◌, ◌++◌, take, drop}
-use Rattle.ep_base.specs.Hearing.{Silence}
+use Rattle.ep_base.specs.Air.Heard.{Silence}
 use Rattle.rf_frame.specs.Meaning.{heard_of}
 use Rattle.rf_field.specs.Airs.{with_answers}
 use Rattle.rf_field.specs.Fields.{hear_all}

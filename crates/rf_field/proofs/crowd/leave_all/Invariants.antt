@@ -1,5 +1,5 @@
 use Rattle.std.proofs.Common.{◌≡◌, ◌++◌, take, drop}
-use Rattle.ep_base.specs.Field.{left_by}
+use Rattle.ep_base.specs.Cards.Field.{left_by}
 use Rattle.rf_field.proofs.crowd.leave_all.Given as goal
 
 -- the cards that left, and the others once they have left

@@ -1,5 +1,5 @@
 use Rattle.std.proofs.Common.{◌≡◌, ◌+◌, ◌++◌, take, drop}
-use Rattle.ep_base.specs.Field.{all_reset}
+use Rattle.ep_base.specs.Cards.Field.{all_reset}
 use Rattle.rf_field.proofs.crowd.reset_all.Given as goal
 
 -- the cards that were reset, and the others once they are

@@ -1,5 +1,5 @@
 use Rattle.std.proofs.Common.{◌≡◌, drop}
-use Rattle.ep_base.specs.Field.{names}
+use Rattle.ep_base.specs.Cards.Field.{names}
 use Rattle.rf_field.proofs.presence.is_listed.Given as goal
 
 -- the number is in the list just where it is in what is left of it

@@ -1,5 +1,5 @@
 use Rattle.std.proofs.Common.{◌≡◌, ◌<◌, ◌^◌, arith, rules, sym, ◌∙◌}
-use Rattle.ep_base.specs.Frame.{hits}
+use Rattle.ep_base.specs.Air.Frame.{hits}
 use Rattle.rf_frame.proofs.BurstLaw.{burst_law}
 use Rattle.rf_frame.proofs.bursts.burst_seen.Goals as goal
 

@@ -1,7 +1,7 @@
 use Rattle.std.proofs.Common.{Bool, subst, IsTrue, ◌<◌, ◌≡◌, ◌≤◌, ◌-◌, ◌*◌, ◌/◌, ◌%◌, ◌^◌, length, not, eqb, take, drop, arith, sym, ap, ◌∙◌, le_of_lt}
 use Rattle.std.specs.List.{refill}
 use borrow.Rule.Slice.PartMut.{put_mid}
-use Rattle.ep_base.specs.Frame.{bit_count, inverted, burst_bits, FallsOn}
+use Rattle.ep_base.specs.Air.Frame.{bit_count, inverted, burst_bits, FallsOn}
 use Rattle.rf_frame.proofs.Inverted.{inverted-zero, inverted_part, burst_bits_within, burst_bits_past, bit_count-le, shifted_by_bytes, eqb-shifted}
 use Rattle.rf_frame.proofs.Places.{InvertsEach-after, hits-FallsOn}
 use Rattle.rf_frame.proofs.bursts.flip.Goals as goal

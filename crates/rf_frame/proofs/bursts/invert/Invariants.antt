@@ -1,5 +1,5 @@
 use Rattle.std.proofs.Common.{◌≡◌, ◌++◌, take, drop}
-use Rattle.ep_base.specs.Frame.{inverted}
+use Rattle.ep_base.specs.Air.Frame.{inverted}
 use Rattle.rf_frame.proofs.bursts.invert.Given as goal
 
 -- what is done, and what is left to do

@@ -1,5 +1,5 @@
 use Rattle.std.proofs.Common.{◌-◌, ap, inl, inr}
-use Rattle.ep_base.specs.Check.{crc_a, crc_b}
+use Rattle.ep_base.specs.Air.Check.{crc_a, crc_b}
 use Rattle.rf_frame.proofs.checks.check.Goals as goal
 
 pub returns-in-B : goal.returns-in-B

@@ -1,5 +1,5 @@
 use Rattle.std.proofs.Common.{sym, ap, ◌∙◌, refl, get_or, take_all, rules}
-use Rattle.ep_base.specs.Check.{register_after, low_bits, sent_bits}
+use Rattle.ep_base.specs.Air.Check.{register_after, low_bits, sent_bits}
 use Rattle.rf_frame.proofs.Register.{register_after-more_bytes}
 use Rattle.rf_frame.proofs.checks.take_bytes.Goals as goal
 

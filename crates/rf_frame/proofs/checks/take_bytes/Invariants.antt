@@ -1,5 +1,5 @@
 use Rattle.std.proofs.Common.{◌≡◌, take}
-use Rattle.ep_base.specs.Check.{register_after, sent_bits}
+use Rattle.ep_base.specs.Air.Check.{register_after, sent_bits}
 use Rattle.rf_frame.proofs.checks.take_bytes.Given as goal
 
 abbrev pub invariant-loop-byte : goal.invariant-loop-byte

@@ -1,6 +1,6 @@
 use Rattle.std.proofs.Common.{◌-◌, ◌≤◌, ◌%◌, ◌/◌, nat_eq, sym, ap, ◌∙◌, length, drop, get_or, arith, eq-eqb, ne_eqb}
 use Rattle.std.specs.Int.Bits.{and_mask}
-use Rattle.ep_base.specs.Frame.{check_of}
+use Rattle.ep_base.specs.Air.Frame.{check_of}
 use Rattle.rf_frame.proofs.Sealing.{ends_in_check-short, ends_in_check-long, both-first, both-none}
 use Rattle.rf_frame.proofs.frames.has_check.Goals as goal
 

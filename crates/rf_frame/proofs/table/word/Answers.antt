@@ -1,5 +1,5 @@
 use Rattle.std.proofs.Common.{◌<◌, ap, ◌∙◌, arith}
-use Rattle.ep_base.specs.Check.{register_after, low_bits}
+use Rattle.ep_base.specs.Air.Check.{register_after, low_bits}
 use Rattle.rf_frame.proofs.Words.{word_at}
 use Rattle.rf_frame.proofs.table.word.Goals as goal
 

@@ -1,5 +1,5 @@
 use Rattle.std.proofs.Common.{◌≡◌, ◌≤◌, ◌+◌, ◌*◌, All, length}
-use Rattle.ep_base.specs.Kernel.{Script, steps_left}
+use Rattle.ep_rules.specs.EntryPoint.Kernel.{Script, steps_left}
 use Rattle.scenario.proofs.job.count_steps.Given as goal
 
 abbrev pub invariant-each : goal.invariant-each

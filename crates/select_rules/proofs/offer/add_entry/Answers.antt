@@ -1,6 +1,6 @@
 use Rattle.std.proofs.Common.{◌++◌, sym, ◌∙◌, ap, append-nil}
 use Rattle.std.proofs.Common.{map}
-use Rattle.ep_base.specs.Directory.{entry_held}
+use Rattle.ep_base.specs.Objects.Directory.{entry_held}
 use Rattle.select_rules.specs.Order.{ranked_of}
 use Rattle.select_rules.proofs.Pairs.{no-pairs}
 use Rattle.select_rules.proofs.offer.add_entry.Goals as goal

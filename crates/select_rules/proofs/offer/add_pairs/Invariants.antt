@@ -1,7 +1,7 @@
 use Rattle.std.proofs.Common.{◌≡◌, ◌≤◌, ◌+◌, ◌++◌, map, drop}
 use Rattle.arrayvec.specs.ArrayVec.{array_vec_len}
-use Rattle.ep_base.specs.Directory.{Entry}
-use Rattle.ep_base.specs.Candidates.{pairs_of}
+use Rattle.ep_base.specs.Objects.Directory.{Entry}
+use Rattle.ep_rules.specs.EntryPoint.Candidates.{pairs_of}
 use Rattle.select_rules.specs.Offer.{OfferOf}
 use Rattle.select_rules.specs.Order.{ranked_of}
 use Rattle.select_rules.proofs.offer.add_pairs.Given as goal

@@ -1,6 +1,6 @@
 use Rattle.std.proofs.Common.{◌≡◌, ℕ, List, [], ◌∷◌, ◌++◌, ap, ◌∙◌}
-use Rattle.ep_base.specs.Said.{Said, Apdu}
-use Rattle.ep_base.specs.Talk.{Response}
+use Rattle.ep_rules.specs.EntryPoint.Event.{Said, Apdu}
+use Rattle.ep_rules.specs.EntryPoint.Talk.{Response}
 use Rattle.session_phases.specs.Told.{told_by}
 use Rattle.session_phases.proofs.Wishing.{looked, selected, heard}
 use Rattle.session_phases.proofs.answering.respond.Goals as goal

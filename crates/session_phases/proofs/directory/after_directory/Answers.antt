@@ -1,7 +1,7 @@
 use Rattle.std.proofs.Common.{sym, subst, refl}
-use Rattle.ep_base.specs.Arena.{Contents}
-use Rattle.ep_base.specs.Candidates.{candidates}
-use Rattle.ep_base.specs.Directory.{directory, entries_held}
+use Rattle.ep_base.specs.Objects.Arena.{Contents}
+use Rattle.ep_rules.specs.EntryPoint.Candidates.{candidates}
+use Rattle.ep_base.specs.Objects.Directory.{directory, entries_held}
 use Rattle.session_phases.specs.Room.{HasRoom}
 use Rattle.session_phases.specs.Told.{told_by}
 use Rattle.session_phases.proofs.Room.{entries_room}

@@ -1,6 +1,6 @@
 use Rattle.std.proofs.Common.{◌≡◌, List, ◌++◌, sym, ap, ◌∙◌, append-nil, subst}
 use Rattle.std.proofs.lemmas.List.{length-map}
-use Rattle.ep_base.specs.Said.{Said}
+use Rattle.ep_rules.specs.EntryPoint.Event.{Said}
 use Rattle.rf_frame.specs.Meaning.{heard_of}
 use Rattle.session_phases.specs.Plain.{onward_of, wish_of}
 use Rattle.session_phases.specs.Rounds.{polls, presents}
@@ -8,8 +8,8 @@ use Rattle.session_phases.specs.Stands.{link_held}
 use Rattle.session_phases.specs.Told.{told_by}
 use Rattle.session_phases.proofs.Coming.{same_said}
 use Rattle.session_phases.proofs.Turning.{rounds_on, none_told}
-use Rattle.ep_base.specs.Round.{round_hears}
-use Rattle.law_lane.specs.Standing.{Doing, Standing, hears_by, after_hearing, after_stage}
+use Rattle.ep_base.specs.Poll.Round.{round_hears}
+use Rattle.ep_claim.specs.Lanes.Standing.{Doing, Standing, hears_by, after_hearing, after_stage}
 use Rattle.poll_activate.specs.Meaning.{ends_of}
 use Rattle.session_phases.specs.Shown.{rounded, ends_at, rounds_of}
 use Rattle.session_phases.specs.Stands.{WishStands}

@@ -1,10 +1,10 @@
 use Rattle.std.proofs.Common.{◌≡◌, Bool, true, false, List, [], ◌∷◌, ◌++◌, Option, Some, None, refl, ap, sym, subst, ◌∙◌}
-use Rattle.ep_base.specs.Said.{Finished}
-use Rattle.ep_base.specs.Talk.{Closed}
-use Rattle.ep_base.specs.Carry.{turn_on}
+use Rattle.ep_rules.specs.EntryPoint.Event.{Finished}
+use Rattle.ep_rules.specs.EntryPoint.Talk.{Closed}
+use Rattle.ep_base.specs.Link.Carry.{turn_on}
 use Rattle.block_reader.specs.Stands.{held}
 use Rattle.block_reader.specs.declared.reader_end.ReaderEnd.{ReaderEnd}
-use Rattle.law_lane.specs.Standing.{Doing, Standing, standing, after_turn, after_hearing, hears_by}
+use Rattle.ep_claim.specs.Lanes.Standing.{Doing, Standing, standing, after_turn, after_hearing, hears_by}
 use Rattle.poll_activate.specs.Meaning.{ends_of}
 use Rattle.rf_frame.specs.Meaning.{heard_of}
 use Rattle.rf_frame.specs.declared.cards.RoundEnd.{RoundEnd}

@@ -1,8 +1,8 @@
 use Rattle.std.proofs.Common.{◌≡◌, List, [], ◌∷◌, ◌++◌, refl, ap, sym, subst, ◌∙◌, append_assoc}
 use Rattle.block_reader.specs.Stands.{held}
-use Rattle.ep_base.specs.Carry.{turn_on}
-use Rattle.ep_base.specs.Said.{Said}
-use Rattle.law_lane.specs.Standing.{after_turn}
+use Rattle.ep_base.specs.Link.Carry.{turn_on}
+use Rattle.ep_rules.specs.EntryPoint.Event.{Said}
+use Rattle.ep_claim.specs.Lanes.Standing.{after_turn}
 use Rattle.rf_frame.specs.Meaning.{heard_of}
 use Rattle.session_event.specs.Event.{said_of_end}
 use Rattle.session_event.specs.declared.event.End.{End}
@@ -14,7 +14,7 @@ use Rattle.session_phases.specs.Stands.{EndsSo}
 use Rattle.session_phases.specs.Told.{told_by}
 use Rattle.session_phases.specs.Plain.{Command, purpose_of, wish_of}
 use Rattle.session_phases.proofs.Turning.{asks_more, gives, fails}
-use Rattle.ep_base.specs.LinkEvents.{exchange_of}
+use Rattle.ep_base.specs.Link.LinkEvents.{exchange_of}
 use Rattle.session_phases.proofs.Showing.{gives_kept}
 use Rattle.session_phases.proofs.linking.hear_command.Goals as goal
 

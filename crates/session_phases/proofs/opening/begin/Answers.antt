@@ -1,9 +1,9 @@
 use Rattle.std.proofs.Common.{Bool, false, List, [], None, refl, ap, sym, subst, arith}
 use Rattle.std.specs.Prelude.{if◌then◌else◌}
-use Rattle.ep_base.specs.EntryPoint.{transaction, starts, presented}
-use Rattle.ep_base.specs.Said.{Finished}
-use Rattle.ep_base.specs.Talk.{Talk, Over}
-use Rattle.law_lane.specs.Standing.{started}
+use Rattle.ep_rules.specs.EntryPoint.Transaction.{transaction, starts, presented}
+use Rattle.ep_rules.specs.EntryPoint.Event.{Finished}
+use Rattle.ep_rules.specs.EntryPoint.Talk.{Talk, Over}
+use Rattle.ep_claim.specs.Lanes.Standing.{started}
 use Rattle.poll_activate.specs.Meaning.{ends_of}
 use Rattle.rf_frame.specs.declared.cards.RoundEnd.{RoundEnd}
 use Rattle.session_phases.specs.Opening.{OpenDecided}

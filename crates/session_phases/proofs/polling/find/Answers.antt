@@ -1,10 +1,10 @@
 use Rattle.std.proofs.Common.{[], ◌∷◌, ◌++◌, ap, ◌∙◌}
 use Rattle.block_reader.specs.Stands.{held}
-use Rattle.ep_base.specs.Apdu.{select, ppse_name}
-use Rattle.ep_base.specs.Dialogue.{opened}
-use Rattle.ep_base.specs.Hearing.{Activated}
-use Rattle.ep_base.specs.Said.{Card, Tells}
-use Rattle.ep_base.specs.Talk.{Command}
+use Rattle.ep_base.specs.Cards.Apdu.{select, ppse_name}
+use Rattle.ep_base.specs.Link.Dialogue.{opened}
+use Rattle.ep_base.specs.Air.Heard.{Activated}
+use Rattle.ep_rules.specs.EntryPoint.Event.{Card, Tells}
+use Rattle.ep_rules.specs.EntryPoint.Talk.{Command}
 use Rattle.session_phases.specs.Told.{told_by}
 use Rattle.session_phases.proofs.Coming.{notes}
 use Rattle.session_phases.proofs.Turning.{finds, set_is}

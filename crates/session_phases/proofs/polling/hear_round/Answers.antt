@@ -1,9 +1,9 @@
 use Rattle.std.proofs.Common.{◌≡◌, ℕ, ◌+◌, List, [], ◌∷◌, ◌++◌, Option, Some, None, ap, sym, subst, ◌∙◌, arith}
 use Rattle.ep_base.specs.declared.outcome.Message.TheVariants.{OneCardOnly}
-use Rattle.ep_base.specs.Hearing.{RoundEnd, Turn, end_of, place_of}
-use Rattle.ep_base.specs.Round.{Stage, round_hears}
-use Rattle.ep_base.specs.Talk.{Round, by_end, rounds}
-use Rattle.law_lane.specs.Standing.{after_stage}
+use Rattle.ep_base.specs.Air.Heard.{RoundEnd, Turn, end_of, place_of}
+use Rattle.ep_base.specs.Poll.Round.{Stage, round_hears}
+use Rattle.ep_rules.specs.EntryPoint.Talk.{Round, by_end, rounds}
+use Rattle.ep_claim.specs.Lanes.Standing.{after_stage}
 use Rattle.poll_activate.specs.Poll.{turn_in}
 use Rattle.rf_frame.specs.Meaning.{heard_of, maybe_end, round_end_of}
 use Rattle.rf_frame.specs.declared.cards.RoundEnd as cards

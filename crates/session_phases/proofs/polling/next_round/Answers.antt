@@ -1,8 +1,8 @@
 use Rattle.std.proofs.Common.{◌≡◌, suc, ◌-◌, ◌++◌, refl, sym, subst, arith}
 use Rattle.ep_base.specs.declared.outcome.Message.TheVariants.{OneCardOnly}
-use Rattle.ep_base.specs.Said.{NoCard}
-use Rattle.ep_base.specs.Talk.{rounds, Over}
-use Rattle.law_lane.specs.Standing.{standing}
+use Rattle.ep_rules.specs.EntryPoint.Event.{NoCard}
+use Rattle.ep_rules.specs.EntryPoint.Talk.{rounds, Over}
+use Rattle.ep_claim.specs.Lanes.Standing.{standing}
 use Rattle.session_phases.specs.Rounds.{polls, presents}
 use Rattle.session_phases.specs.Stands.{RoundTurned}
 use Rattle.session_phases.specs.Told.{told_by}

@@ -1,6 +1,6 @@
 use Rattle.std.proofs.Common.{ap, sym, ◌∙◌}
-use Rattle.ep_base.specs.Apdu.{data_of}
-use Rattle.ep_base.specs.Said.{Given}
+use Rattle.ep_base.specs.Cards.Apdu.{data_of}
+use Rattle.ep_rules.specs.EntryPoint.Event.{Activation}
 use Rattle.session_phases.specs.Offers.{with_fci}
 use Rattle.session_phases.specs.Told.{told_by}
 use Rattle.session_phases.proofs.Wishing.{chosen, passed}
@@ -11,7 +11,7 @@ returns-then-is_success-clause-wishes g c = λ talk results before h.
     c.activate.ensures.wishes talk results before
     (chosen g.K.Kernels.steps c.args.prepared.now.list c.args.arena.now.objects talk results before (told_by c.args.events.now.items) (g.K.Kernels.state c.args.kernels.now)
     c.args.selection.now.rest c.args.selection.now.given c.answered-selection.result c.args.response.now (sym c.is_success.ensures ∙ c.if-is_success.true)
-    (λ x is. c.answered-selection.ensures ∙ ap (λ (given : Given). with_fci given (data_of c.args.response.now)) is) h)
+    (λ x is. c.answered-selection.ensures ∙ ap (λ (given : Activation). with_fci given (data_of c.args.response.now)) is) h)
 
 pub returns-clause-wishes : goal.returns-clause-wishes
 returns-clause-wishes g c = λ talk results before h.

@@ -1,6 +1,6 @@
 use Rattle.tlv_arena.specs.Layout.{Held}
 use Rattle.std.proofs.Common.{◌≡◌, None, ap, sym, subst}
-use Rattle.ep_base.specs.Arena.{Contents, value_of, value_in, IsLeast}
+use Rattle.ep_base.specs.Objects.Arena.{Contents, value_of, value_in, IsLeast}
 use Rattle.tlv_arena.specs.StoreState.{objects_of}
 use Rattle.tlv_arena.proofs.Rising.{IsLeast-first, value_of-first, value_in-none}
 use Rattle.tlv_arena.proofs.Arena.find.Goals as goal

@@ -1,7 +1,7 @@
 use Rattle.std.proofs.Common.{◌≡◌, ◌∙◌, ◌+◌, ◌-◌, ◌≤◌, ◌<◌, ◌&&◌, ℕ, Bool, length, arith, sym, ap, subst, leb, ltb}
 use Rattle.std.proofs.lemmas.Bool.{le-leb, lt-leb}
 use Rattle.std.proofs.lemmas.List.{length-map}
-use Rattle.ep_base.specs.Arena.{live_bytes, has_room}
+use Rattle.ep_base.specs.Objects.Arena.{live_bytes, has_room}
 use Rattle.tlv_arena.specs.ArenaState.{contents_of}
 use Rattle.tlv_arena.specs.Layout.{Held}
 use Rattle.tlv_arena.specs.StoreState.{object_at}

@@ -1,5 +1,5 @@
 use Rattle.std.proofs.Common.{ap, ◌∙◌}
-use Rattle.ep_base.specs.Arena.{live_bytes}
+use Rattle.ep_base.specs.Objects.Arena.{live_bytes}
 use Rattle.tlv_arena.specs.Layout.{Held}
 use Rattle.tlv_arena.proofs.Pulls.{used_is}
 use Rattle.tlv_arena.proofs.Arena.live_bytes.Goals as goal

@@ -1,5 +1,5 @@
 use Rattle.std.proofs.Common.{◌≡◌, drop}
-use Rattle.ep_base.specs.Arena.{HaveSerials, after_all}
+use Rattle.ep_base.specs.Objects.Arena.{HaveSerials, after_all}
 use Rattle.tlv_arena.specs.Calls.{calls_of}
 use Rattle.tlv_arena.proofs.Arena.make_all.Given as goal
 

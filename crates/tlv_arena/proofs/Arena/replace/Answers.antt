@@ -5,8 +5,8 @@ use Rattle.tlv_arena.specs.Layout.{Held}
 use Rattle.std.proofs.Common.{◌≡◌, ◌∙◌, ◌≤◌, ◌<◌, [], List, arith, sym, ap, subst}
 use Rattle.std.specs.Prelude.{is_some}
 use Rattle.std.proofs.lemmas.Bool.{le-leb, lt-leb, cond-true, cond-false}
-use Rattle.ep_base.specs.Arena.{Object, Contents, value_of, replaced, live_bytes, after, HasRoomFor}
-use Rattle.ep_base.specs.Arena as kept
+use Rattle.ep_base.specs.Objects.Arena.{Object, Contents, value_of, replaced, live_bytes, after, HasRoomFor}
+use Rattle.ep_base.specs.Objects.Arena as kept
 use Rattle.tlv_arena.specs.Answers.{IsLive}
 use Rattle.tlv_arena.specs.ArenaState.{contents_of}
 use Rattle.tlv_arena.specs.StoreState.{objects_of}

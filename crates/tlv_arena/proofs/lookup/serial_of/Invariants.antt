@@ -1,5 +1,5 @@
 use Rattle.std.proofs.Common.{◌≡◌, ℕ, List, drop}
-use Rattle.ep_base.specs.Arena as kept
+use Rattle.ep_base.specs.Objects.Arena as kept
 use Rattle.tlv_arena.specs.StoreState.{objects_in}
 use Rattle.tlv_arena.proofs.lookup.serial_of.Given as goal
 

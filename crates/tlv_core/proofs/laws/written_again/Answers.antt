@@ -1,6 +1,6 @@
 use Rattle.std.proofs.Common.{◌≡◌, ℕ, ◌+◌, true, false, List, ◌∷◌, ◌++◌, length, refl, ap, ◌∙◌, arith}
 use Rattle.ep_base.specs.declared.objects.Node.{Node}
-use Rattle.ep_base.specs.Objects.{primitive, constructed, spelling, nodes}
+use Rattle.ep_base.specs.Objects.Forest.{primitive, constructed, spelling, nodes}
 use Rattle.tlv_core.proofs.laws.written_again.Goals as goal
 
 pub returns-clause-primitive : goal.returns-clause-primitive

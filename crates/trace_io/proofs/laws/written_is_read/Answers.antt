@@ -1,4 +1,4 @@
-use Rattle.ep_base.specs.TraceLine.{trace_text}
+use Rattle.ep_claim.specs.Text.TraceLine.{trace_text}
 use Rattle.trace_io.proofs.Spelt.{spelt_is_read, written_spells}
 use Rattle.trace_io.proofs.laws.written_is_read.Goals as goal
 

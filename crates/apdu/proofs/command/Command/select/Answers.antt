@@ -1,6 +1,6 @@
 use Rattle.std.proofs.Common.{◌≡◌, ◌≤◌, ℕ, true, List, length, sym, subst, rules, arith, ap, length-append}
 use Rattle.std.proofs.lemmas.Grind.{common_steps}
-use Rattle.ep_base.specs.Apdu.{is_command, select}
+use Rattle.ep_base.specs.Cards.Apdu.{is_command, select}
 use Rattle.apdu.proofs.Selecting.{select-is_command}
 use Rattle.apdu.proofs.command.Command.select.Goals as goal
 

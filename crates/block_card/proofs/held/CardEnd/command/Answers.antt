@@ -1,5 +1,5 @@
 use Rattle.std.proofs.Common.{◌≡◌, ◌≤◌, ℕ, true, List, length, subst, sym, rules}
-use Rattle.ep_base.specs.Apdu.{is_command}
+use Rattle.ep_base.specs.Cards.Apdu.{is_command}
 use Rattle.block_card.proofs.Commands.{is_read}
 use Rattle.block_card.proofs.held.CardEnd.command.Goals as goal
 

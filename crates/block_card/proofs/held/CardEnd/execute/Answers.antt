@@ -1,5 +1,5 @@
 use Rattle.std.proofs.Common.{◌≡◌, ◌≤◌, ℕ, List, ◌∷◌, [], false, length, subst, rules}
-use Rattle.ep_base.specs.Apdu.{is_command}
+use Rattle.ep_base.specs.Cards.Apdu.{is_command}
 use Rattle.block_card.specs.Held.{held_card}
 use Rattle.block_card.proofs.Commands.{not_command}
 use Rattle.block_card.proofs.Steps.{refused}

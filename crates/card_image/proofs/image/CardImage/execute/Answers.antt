@@ -1,5 +1,5 @@
 use Rattle.std.proofs.Common.{◌≡◌, subst, sym}
-use Rattle.ep_base.specs.CardAnswer.{Image, Answered, IsApp, with_app, other_answer}
+use Rattle.ep_base.specs.Cards.CardAnswer.{Image, Answered, IsApp, with_app, other_answer}
 use Rattle.card_image.proofs.Limits.{executes_keeps}
 use Rattle.card_image.proofs.Selected.{with_app_keeps, executes_at}
 use Rattle.card_image.proofs.image.CardImage.execute.Goals as goal

@@ -1,5 +1,5 @@
-use Rattle.ep_base.specs.EntryPoint.{transaction}
-use Rattle.law_lane.specs.Standing.{started}
+use Rattle.ep_rules.specs.EntryPoint.Transaction.{transaction}
+use Rattle.ep_claim.specs.Lanes.Standing.{started}
 use Rattle.session_phases.specs.Told.{told_by}
 use Rattle.entry_session.proofs.Advancing.{begin_cause}
 use Rattle.entry_session.proofs.holding.Session.start_into.Goals as goal

@@ -1,5 +1,5 @@
 use Rattle.std.proofs.Common.{◌≡◌, false, rules, arith}
-use Rattle.ep_base.specs.Memory.{is_listed}
+use Rattle.ep_base.specs.Streams.Memory.{is_listed}
 use Rattle.ep_base.proofs.memory.MemorySourceSource.pull.Goals as goal
 
 pub returns-then-count-eq0-clause-listed : goal.returns-then-count-eq0-clause-listed

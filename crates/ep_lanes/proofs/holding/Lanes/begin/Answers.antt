@@ -1,6 +1,6 @@
 use Rattle.std.proofs.Common.{map, is_some, sym, ◌∙◌, ap, subst}
-use Rattle.law_lane.specs.Standing.{started}
-use Rattle.ep_base.specs.EntryPoint.{transaction}
+use Rattle.ep_claim.specs.Lanes.Standing.{started}
+use Rattle.ep_rules.specs.EntryPoint.Transaction.{transaction}
 use Rattle.ep_lanes.specs.Lanes.{LaneHeld, lane_held}
 use Rattle.ep_lanes.specs.Turns.{Stands}
 use Rattle.ep_lanes.proofs.Numbering.{live_there, changed, others, is_some-open_by}

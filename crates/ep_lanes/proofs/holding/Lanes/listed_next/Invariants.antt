@@ -1,5 +1,5 @@
 use Rattle.std.proofs.Common.{◌≡◌, drop}
-use Rattle.law_turns.specs.Order.{listed}
+use Rattle.ep_claim.specs.Lanes.Order.{listed}
 use Rattle.ep_lanes.specs.Lanes.{is_live, lanes_of}
 use Rattle.ep_lanes.proofs.holding.Lanes.listed_next.Given as goal
 

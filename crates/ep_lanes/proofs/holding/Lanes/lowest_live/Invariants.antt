@@ -1,5 +1,5 @@
 use Rattle.std.proofs.Common.{◌≡◌, ◌+◌, ◌-◌}
-use Rattle.law_turns.specs.Order.{lowest}
+use Rattle.ep_claim.specs.Lanes.Order.{lowest}
 use Rattle.ep_lanes.specs.Lanes.{is_live, lanes_of}
 use Rattle.ep_lanes.proofs.holding.Lanes.lowest_live.Given as goal
 

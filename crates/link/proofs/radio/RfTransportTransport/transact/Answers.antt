@@ -1,7 +1,7 @@
 use Rattle.std.proofs.Common.{◌≡◌, true, Some, Ok, Err, refl, ap, ◌∙◌, subst}
 use Rattle.std.proofs.lemmas.Result.{err_from_is_err_and}
-use Rattle.ep_base.specs.Carry.{ActsAs, AtRest, OfLink}
-use Rattle.ep_base.specs.Radio.{OpenLink}
+use Rattle.ep_base.specs.Link.Carry.{ActsAs, AtRest, OfLink}
+use Rattle.ep_base.specs.Poll.Radio.{OpenLink}
 use Rattle.block_reader.specs.declared.ends.LinkEnd.{LinkEnd}
 use Rattle.block_reader.specs.Stands.{held}
 use Rattle.link.specs.Radio.{OverWire, link_of, open_link, resting}

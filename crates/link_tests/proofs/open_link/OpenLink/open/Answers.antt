@@ -1,6 +1,6 @@
 use Rattle.std.proofs.Common.{rules, ◌≡◌, ◌≤◌, ℕ, sym, ◌∙◌, subst, ap}
 use Rattle.ep_base.specs.declared.air.CardKind.{CardKind}
-use Rattle.ep_base.specs.Wire.{new_wire}
+use Rattle.ep_base.specs.Link.Wire.{new_wire}
 use Rattle.rf_field.specs.Meaning.{passages}
 use Rattle.link_tests.specs.Open.{end_of, far_end}
 use Rattle.link_tests.proofs.Ready.{all_fates, just_opened}

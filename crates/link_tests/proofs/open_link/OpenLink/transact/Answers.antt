@@ -1,8 +1,8 @@
 use Rattle.std.proofs.Common.{◌≡◌, ◌≤◌, ◌+◌, IfOk, length, ℕ, true, List, refl, Ok, Err, Result}
 use Rattle.block_reader.specs.declared.ends.LinkEnd.{LinkEnd}
-use Rattle.ep_base.specs.Wire.{Wire}
-use Rattle.ep_base.specs.LinkFrames.{LinkSetting}
-use Rattle.ep_base.specs.Carry.{OfLink}
+use Rattle.ep_base.specs.Link.Wire.{Wire}
+use Rattle.ep_base.specs.Link.LinkFrames.{LinkSetting}
+use Rattle.ep_base.specs.Link.Carry.{OfLink}
 use Rattle.block_reader.specs.Stands.{Held}
 use Rattle.link.specs.Carried.{ByWire}
 use Rattle.link_tests.specs.Open.{end_of, far_end, IsReady}

@@ -1,5 +1,5 @@
 use Rattle.std.proofs.Common.{ap, ◌∙◌}
-use Rattle.ep_base.specs.Hearing.{place_of, end_of}
+use Rattle.ep_base.specs.Air.Heard.{place_of, end_of}
 use Rattle.poll_activate.proofs.Along.{stands-more}
 use Rattle.poll_activate.proofs.reader.Poll.heard.Goals as goal
 

@@ -1,8 +1,8 @@
 use Rattle.std.proofs.Common.{◌++◌, ℕ, List, append-nil, sym, ap, ◌∙◌, subst}
 use Rattle.std.specs.Option.{option_copied}
-use Rattle.ep_base.specs.CardAnswer.{Answered, card_answer}
-use Rattle.ep_base.specs.CardEnd.{answers}
-use Rattle.ep_base.specs.Wire.{Heeded}
+use Rattle.ep_base.specs.Cards.CardAnswer.{Answered, card_answer}
+use Rattle.ep_base.specs.Link.CardEnd.{answers}
+use Rattle.ep_base.specs.Link.Wire.{Heeded}
 use Rattle.block_card.specs.declared.held.CardNext.TheVariants.{Send}
 use Rattle.block_card.specs.Held.{held_card, card_of}
 use Rattle.block_card.specs.Shows.{Answers}

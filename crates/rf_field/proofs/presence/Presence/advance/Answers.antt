@@ -1,5 +1,5 @@
 use Rattle.std.proofs.Common.{◌+◌, ◌<◌, length, ap, ◌∙◌, rules}
-use Rattle.ep_base.specs.Field.{next_presence}
+use Rattle.ep_base.specs.Cards.Field.{next_presence}
 use Rattle.rf_field.proofs.Rounds.{goes_on}
 use Rattle.rf_field.proofs.presence.Presence.advance.Goals as goal
 

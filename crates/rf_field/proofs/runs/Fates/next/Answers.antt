@@ -1,5 +1,5 @@
 use Rattle.std.proofs.Common.{◌≡◌, ◌+◌, ◌≤◌, ◌<◌, length, drop, get_or, ap, ◌∙◌, arith, rules}
-use Rattle.ep_base.specs.Air.{next_fate, fates_after}
+use Rattle.ep_base.specs.Air.Fates.{next_fate, fates_after}
 use Rattle.rf_field.specs.declared.fates.FateRun.TheVariants.{Clean, One}
 use Rattle.rf_field.specs.Meaning.{passages}
 use Rattle.rf_field.proofs.Left.{left_at, run_fits, next_clean, after_clean}

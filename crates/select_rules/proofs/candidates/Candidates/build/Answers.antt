@@ -1,9 +1,9 @@
 use Rattle.std.proofs.Common.{◌≡◌, ℕ, ◌+◌, ◌-◌, ◌++◌, List, map, sym, ◌∙◌, ap, subst, arith, append-nil, length, IsPermutation}
 use Rattle.arrayvec.specs.ArrayVec.{array_vec_len, with_items}
 use Rattle.arrayvec.proofs.ArrayVecLemmas.{items-with_items}
-use Rattle.ep_base.specs.PreProcessing.{Ready}
-use Rattle.ep_base.specs.Directory.{Entry, entry_held, held_from, entries_held}
-use Rattle.ep_base.specs.Candidates.{pairs_from, in_order, candidates}
+use Rattle.ep_rules.specs.EntryPoint.PreProcessing.{Ready}
+use Rattle.ep_base.specs.Objects.Directory.{Entry, entry_held, held_from, entries_held}
+use Rattle.ep_rules.specs.EntryPoint.Candidates.{pairs_from, in_order, candidates}
 use Rattle.select_rules.specs.declared.pair.Ranked.{Ranked}
 use Rattle.select_rules.specs.Left.{place_of}
 use Rattle.select_rules.specs.Order.{ranked_of, pair_of}

@@ -1,8 +1,8 @@
 use Rattle.std.proofs.Common.{◌≡◌, ◌≤◌, ◌+◌, ◌-◌, ◌*◌, ◌++◌, map}
 use Rattle.std.specs.List.{count_by}
 use Rattle.arrayvec.specs.ArrayVec.{array_vec_len}
-use Rattle.ep_base.specs.Directory.{is_named, held_from}
-use Rattle.ep_base.specs.Candidates.{pairs_from}
+use Rattle.ep_base.specs.Objects.Directory.{is_named, held_from}
+use Rattle.ep_rules.specs.EntryPoint.Candidates.{pairs_from}
 use Rattle.select_rules.specs.Order.{ranked_of}
 use Rattle.select_rules.proofs.candidates.Candidates.build.Given as goal
 

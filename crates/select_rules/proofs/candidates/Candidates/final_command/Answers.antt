@@ -1,6 +1,6 @@
 use Rattle.std.proofs.Common.{Some, ◌∙◌, ap}
-use Rattle.ep_base.specs.Configuration.{Combination}
-use Rattle.ep_base.specs.PreProcessing.{Ready}
+use Rattle.ep_rules.specs.EntryPoint.Configuration.{Combination}
+use Rattle.ep_rules.specs.EntryPoint.PreProcessing.{Ready}
 use Rattle.select_rules.proofs.Held.{first_command, no_command}
 use Rattle.select_rules.proofs.candidates.Candidates.final_command.Goals as goal
 

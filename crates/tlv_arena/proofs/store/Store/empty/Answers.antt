@@ -1,5 +1,5 @@
 use Rattle.std.proofs.Common.{◌≡◌, ◌<◌, [], length, inl, arith, refl}
-use Rattle.ep_base.specs.RawBytes.{run}
+use Rattle.ep_base.specs.Objects.RawBytes.{run}
 use Rattle.tlv_arena.specs.declared.slot.Slot.{Slot}
 use Rattle.tlv_arena.specs.StoreState.{InBlock, Clear}
 use Rattle.tlv_arena.proofs.Lists.{all_set, all_of, apart-set, lens-set, objects-set}

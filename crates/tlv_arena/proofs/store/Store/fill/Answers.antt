@@ -1,8 +1,8 @@
 use Rattle.std.proofs.Common.{◌≡◌, ◌<◌, ◌≤◌, ◌+◌, ◌++◌, List, length, get_or, inl, inr, arith, refl, sym, ap, subst, ◌∙◌}
 use Rattle.std.specs.Vec.{with_item}
 use Rattle.std.proofs.lemmas.List.{length-append, length-map, get_or-map}
-use Rattle.ep_base.specs.Arena.{Object, live_bytes}
-use Rattle.ep_base.specs.RawBytes.{Block, run}
+use Rattle.ep_base.specs.Objects.Arena.{Object, live_bytes}
+use Rattle.ep_base.specs.Objects.RawBytes.{Block, run}
 use Rattle.tlv_arena.specs.declared.slot.Slot.{Slot}
 use Rattle.tlv_arena.specs.StoreState.{object_at, objects_of, with_value, InBlock, Clear, Becomes}
 use Rattle.tlv_arena.proofs.Slide.{run_len, run-added, run-tail}

@@ -1,5 +1,5 @@
 use Rattle.std.proofs.Common.{refl, sym, subst}
-use Rattle.ep_base.specs.RawBytes.{Block}
+use Rattle.ep_base.specs.Objects.RawBytes.{Block}
 use Rattle.std.specs.Vec.{with_item}
 use Rattle.tlv_arena.specs.declared.slot.Slot.{Slot}
 use Rattle.tlv_arena.specs.StoreState.{objects_of, IsPacked, Becomes, IsLowest}

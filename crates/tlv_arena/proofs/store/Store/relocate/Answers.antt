@@ -1,5 +1,5 @@
 use Rattle.std.proofs.Common.{◌≡◌, ◌+◌, ℕ, inr, sym, ap, subst, ◌∙◌, arith, length}
-use Rattle.ep_base.specs.RawBytes.{Block}
+use Rattle.ep_base.specs.Objects.RawBytes.{Block}
 use Rattle.tlv_arena.specs.StoreState.{objects_of, IsPacked, Becomes, Side}
 use Rattle.tlv_arena.proofs.Lists.{all_of, none-below}
 use Rattle.tlv_arena.proofs.Pulls.{cut-store, cut-objects, cut-length}

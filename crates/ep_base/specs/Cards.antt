@@ -1,0 +1,12 @@
+-- Cards.
+pub mod Lawful
+pub mod Activation
+pub mod Apdu
+pub mod CardAnswer
+pub mod CardLimits
+pub mod Direct
+pub mod Field
+pub mod Images
+pub mod Numbers
+pub mod TypeA
+pub mod TypeB

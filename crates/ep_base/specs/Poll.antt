@@ -1,0 +1,5 @@
+-- Poll.
+pub mod Polling
+pub mod Radio
+pub mod Round
+pub mod Transport

@@ -1,0 +1,5 @@
+-- Streams.
+pub mod Causes
+pub mod Io
+pub mod Memory
+pub mod Words

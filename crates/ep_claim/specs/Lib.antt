@@ -1,0 +1,3 @@
+pub mod Promise
+pub mod Lanes
+pub mod Text

@@ -1,0 +1,1 @@
+//! The definitions of Entry Point: this project's profile, after EMV Contactless Book B, over plain data.
