@@ -32,7 +32,6 @@ one_script k v = record {
   few = omega arith;
   short = All-cons IsShort (script_of k v) [] (omega arith) (All-nil IsShort);
   sends = (((step_sends, tt), tt), tt);
-  commands = rw (step_sends) refl;
 }
 
 two_scripts : (k : ℕ) (v w : Verdict) → AreScripts (script_of k v ∷ script_of k w ∷ [])
@@ -40,7 +39,6 @@ two_scripts k v w = record {
   few = omega arith;
   short = All-cons IsShort (script_of k v) (script_of k w ∷ []) (omega arith) (All-cons IsShort (script_of k w) [] (omega arith) (All-nil IsShort));
   sends = (((step_sends, tt), ((step_sends, tt), tt)), tt);
-  commands = rw (step_sends) refl;
 }
 
 -- The scripts of a transaction are within the limits of a document's scripts.

@@ -203,7 +203,7 @@ log_by talk commands heard u p Whole lists said few k =
     let events : apdus ((so_far talk heard).events ++ []) ≡ apdus (so_far talk p.results).events = ap (λ x. apdus x) k.events in
     let same : apdus ((so_far talk heard).events ++ []) ≡ apdus (so_far talk heard).events = ap (λ x. apdus x) (append-nil (so_far talk heard).events) in
     omega (arith, size, events, same, lists, few)
-log_by talk commands heard u p AtLink lists said few (e, third) =
+log_by talk commands heard u p AtLink lists said few e =
     let wished : commands_wished (so_far talk heard).wish ≡ 1 = ap (λ w. commands_wished w) e.wished in
     let earlier = e.all_earlier in
     ⊎_elim
