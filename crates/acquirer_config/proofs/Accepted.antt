@@ -6,7 +6,7 @@ use Rattle.std.specs.Option.{ForSome}
 use Rattle.std.proofs.lemmas.List.Elements.{All-nil, All-head, All-tail}
 use Rattle.std.proofs.lemmas.Bool.Decides.{nat_tests, leb_tells}
 use Rattle.toml.specs.Data.{Data}
-use Rattle.ep_rules.specs.EntryPoint.Configuration.{Combination, Config, IsAmount, IsCombination, AreCombinations, AreSettings, count_of}
+use Rattle.ep_rules.specs.EntryPoint.Configuration.{Combination, Config, IsAmount, IsCombination, AreCombinations, IsConfig, count_of}
 use Rattle.doc_table.specs.declared.list.ElementKind.TheVariants.{Table}
 use Rattle.doc_table.specs.Read.{Place, list_of, integer_in, byte_text, table_of, optional, required, defaulted, truth}
 use Rattle.doc_table.proofs.Accepted.{Accepts, after, accepted_integer, accepted_bytes, accepted_optional, accepted_required, accepted_defaulted, accepted_list}
@@ -119,7 +119,7 @@ pub accepted_list_at : (root : Place) (list : List Combination) → defaulted []
 accepted_list_at root list e = accepted_defaulted combinations AreCombinations [] (codes "combinations") root list accepted_combinations no_combinations e
 
 -- An accepted configuration is within its limits.
-pub accepted_config : (root : Place) (s : Config) → config_at root ≡ Ok s → AreSettings s
+pub accepted_config : (root : Place) (s : Config) → config_at root ≡ Ok s → IsConfig s
 unfolding config_at
 accepted_config root s e =
     after (defaulted 2 (integer_in 0 4) (codes "exponent") root) _ s e (λ exponent is_exponent e1.
@@ -127,4 +127,4 @@ accepted_config root s e =
     let made : Config = record { exponent = exponent; list = list } in
     let same : made ≡ s = cc in
     let small = accepted_defaulted (integer_in 0 4) _ 2 (codes "exponent") root exponent (accepted_integer 0 4) (omega arith, omega arith) is_exponent in
-    subst AreSettings same (record { exponent = small.1; list = accepted_list_at root list is_list })))
+    subst IsConfig same (record { exponent = small.1; list = accepted_list_at root list is_list })))

@@ -1,7 +1,7 @@
 //! The configuration of a reader.
 ghost use Rattle.std.specs.Prelude.{◌≡◌, ◌+◌, ◌<◌, ◌≤◌, ◌^◌, [], codes, length, IfSome};
 ghost use Rattle.toml.specs.View.{table_view};
-ghost use Rattle.ep_rules.specs.EntryPoint.Configuration.{Config as Settings, AreSettings, AreCombinations, count_of};
+ghost use Rattle.ep_rules.specs.EntryPoint.Configuration.{Config as Settings, IsConfig, AreCombinations, count_of};
 ghost use Rattle.doc_table.specs.Read.{GivesIfRoom, defaulted};
 ghost use Rattle.doc_table.specs.Section.{place};
 ghost use Rattle.acquirer_config.specs.Config.{crowd, config_at, combinations};
@@ -26,7 +26,7 @@ impl Model for Config {
 
     ghost view = { λ c. record { exponent = c.exponent; list = c.list.items } };
 
-    ghost invariant = { λ c. AreSettings (record { exponent = c.exponent; list = c.list.items }) };
+    ghost invariant = { λ c. IsConfig (record { exponent = c.exponent; list = c.list.items }) };
 }
 
 impl Config {
@@ -48,7 +48,7 @@ impl Config {
 
     /// The configuration with this exponent and these Combinations.
     pub fn of_list(exponent: u8, list: Vec<Combination>) -> Config
-        requires { AreSettings (record { exponent = exponent; list = list.items }) }
+        requires { IsConfig (record { exponent = exponent; list = list.items }) }
         ensures { result ≡ record { exponent = exponent; list = list.items } }
     {
         Config { exponent, list }

@@ -145,7 +145,7 @@ abbrev pub ShowsCause : Turn → Hearing → Doing → (rounds : List RoundEnd) 
 ShowsCause (turns.Ask ask) heard doing rounds link events = Unit {0}
 ShowsCause (turns.Ended end) heard doing rounds link events = CauseShows end heard doing rounds link events
 
--- Before the first exchange a transaction ends only as Entry Point decides, after an outcome (EMV Book B).
+-- Before the first exchange a transaction ends only as Entry Point decides, after an outcome (after EMV Contactless Book B).
 abbrev pub BeginCauseShows : End → (events : List Said) → Type 0
 BeginCauseShows ending.Done events = IsDecided ending.Done events
 BeginCauseShows ending.Link events = ⊥

@@ -1,5 +1,5 @@
 //! What every other crate stands on: bytes that come in and go out, the buffers and words that several crates
-//! share, and, in `specs/`, the definitions that the contracts of the whole repository cite.
+//! share, and, in `specs/`, the definitions of the air, the link, cards, poll rounds and data objects.
 #![tactic(auto)]
 
 mod activation;

@@ -2,11 +2,11 @@
 use Rattle.std.proofs.Common.{◌≡◌, ◌≤◌, ℕ, zero, suc, ◌+◌, ◌==◌, List, [], ◌∷◌, ◌++◌, length, true, refl, arith}
 use Rattle.std.specs.Prelude.{replicate}
 use Rattle.std.proofs.lemmas.List.Elements.{All-cons, All-nil}
-use Rattle.ep_base.specs.Air.Fates.{Fate, ArePassages}
+use Rattle.ep_base.specs.Air.Fates.{Fate, AreFates}
 use Rattle.ep_base.specs.Cards.Apdu.{is_command}
 use Rattle.ep_rules.specs.EntryPoint.Kernel.{Script}
 use Rattle.ep_rules.specs.EntryPoint.Event.{Verdict}
-use Rattle.rf_field.specs.Meaning.{clean_passage}
+use Rattle.rf_field.specs.Meaning.{clean_fate}
 use Rattle.card_table.specs.Cards.{IsCard}
 use Rattle.card_table.proofs.Numbered.{all_placed, all_distinct}
 use Rattle.scenario.specs.Accepted.{IsLawful}
@@ -49,14 +49,14 @@ are_scripts d =
     either (λ (rest : List Script). AreScripts (script_of k v ∷ rest)) (d.outcome == 3) (script_of k approved ∷ []) []
     (two_scripts k v approved) (one_script k v)
 
-joined : (n : ℕ) (fates : List Fate) → ArePassages fates → ArePassages (replicate n clean_passage ++ fates)
+joined : (n : ℕ) (fates : List Fate) → AreFates fates → AreFates (replicate n clean_fate ++ fates)
 joined zero fates are = are
 joined (suc n) fates are = (tt, tt, joined n fates are)
 
-are_fates : (d : Draws) → ArePassages (fates_drawn d)
+are_fates : (d : Draws) → AreFates (fates_drawn d)
 are_fates d =
     joined (7 + d.clean) _ (
-    either ArePassages (d.loss == 0) (leaving ∷ []) (answer_lost ∷ (replicate 3 clean_passage ++ frame_lost ∷ []))
+    either AreFates (d.loss == 0) (leaving ∷ []) (answer_lost ∷ (replicate 3 clean_fate ++ frame_lost ∷ []))
     (tt, tt, tt) (tt, tt, joined 3 (frame_lost ∷ []) (tt, tt, tt)))
 
 -- A transaction of a load is lawful.

@@ -3,7 +3,7 @@ use Rattle.std.proofs.Common.{◌≡◌, ℕ, ◌==◌, List, [], ◌∷◌, len
 use Rattle.std.specs.Prelude.{All}
 use Rattle.std.proofs.lemmas.List.Elements.{All-cons, All-nil}
 use Rattle.std.proofs.lemmas.List.Sums.{count_by-le-length}
-use Rattle.ep_rules.specs.EntryPoint.Configuration.{Combination, IsAmount, IsCombination, AreSettings}
+use Rattle.ep_rules.specs.EntryPoint.Configuration.{Combination, IsAmount, IsCombination, IsConfig}
 use Rattle.ep_load.specs.Terms.{first, second, third, terms}
 use Rattle.ep_load.proofs.Choices.{of_none, of_some}
 
@@ -57,7 +57,7 @@ each_is =
     All-cons IsCombination first (second ∷ third ∷ []) first_is (
     All-cons IsCombination second (third ∷ []) second_is (All-cons IsCombination third [] third_is (All-nil IsCombination)))
 
-pub are_terms : AreSettings terms
+pub are_terms : IsConfig terms
 are_terms = record {
   exponent = omega arith;
   list = record {

@@ -1,7 +1,7 @@
 -- What becomes of the frames of a load (this project's own).
 use Rattle.std.specs.Prelude.{◌+◌, ◌==◌, List, [], ◌∷◌, ◌++◌, replicate, if◌then◌else◌}
 use Rattle.ep_base.specs.Air.Fates.{Fate, Passes, Loses, Leaves}
-use Rattle.rf_field.specs.Meaning.{clean_passage}
+use Rattle.rf_field.specs.Meaning.{clean_fate}
 use Rattle.ep_load.specs.Draws.{Draws}
 
 -- Every card leaves before the frame comes to it (this project's own).
@@ -19,5 +19,5 @@ frame_lost = record { down = Loses; up = Passes }
 -- After at least seven clean exchanges either every card leaves, or an answer is lost and, three clean exchanges later, a frame (this project's own).
 abbrev pub fates_drawn : Draws → List Fate
 fates_drawn d =
-    replicate (7 + d.clean) clean_passage
-    ++ (if d.loss == 0 then leaving ∷ [] else answer_lost ∷ (replicate 3 clean_passage ++ frame_lost ∷ []))
+    replicate (7 + d.clean) clean_fate
+    ++ (if d.loss == 0 then leaving ∷ [] else answer_lost ∷ (replicate 3 clean_fate ++ frame_lost ∷ []))

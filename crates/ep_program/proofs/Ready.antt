@@ -6,7 +6,7 @@ use Rattle.std.specs.Io.KnownBytes.{Appends}
 use Rattle.std.proofs.lemmas.List.{length-map}
 use Rattle.std.proofs.lemmas.List.Sums.{length-filter}
 use Rattle.std.proofs.lemmas.List.Elements.{All-nil, All-cons, All-head, All-tail, All-weaker, All-map}
-use Rattle.ep_rules.specs.EntryPoint.Configuration.{Combination, Config, AreSettings, count_of}
+use Rattle.ep_rules.specs.EntryPoint.Configuration.{Combination, Config, IsConfig, count_of}
 use Rattle.ep_base.specs.Streams.Io.{AppendsPrefix}
 use Rattle.ep_rules.specs.EntryPoint.Kernel.{steps_left}
 use Rattle.ep_rules.specs.EntryPoint.PreProcessing.{prepared_one, prepared}
@@ -51,7 +51,7 @@ room_more a a' b b' n m ea eb en =
 no_more : (n : ℕ) → n + 0 ≡ n
 no_more n = omega arith
 
-module _ (settings : Config) (limits : AreSettings settings) (fsdi : ℕ) where
+module _ (settings : Config) (limits : IsConfig settings) (fsdi : ℕ) where
   is_fresh : (t : Transaction) → IsLawful t → IsFresh settings fsdi (work_of settings t)
   is_fresh t lawful = record {
     new = new_field_law (placed_from 1 t.cards) t.presence t.fates (room_of settings t) fsdi lawful.placed lawful.apart lawful.distinct lawful.fates;

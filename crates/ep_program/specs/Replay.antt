@@ -34,7 +34,7 @@ replay_plan members = do
 abbrev pub GivesTrace : Option (List ℕ) → Plan → List TraceLine → Type 0
 GivesTrace input p lines = (members : Members) × (replay_plan members ≡ Ok (p, lines)) × IsInput input members
 
--- The transactions of a scene's lanes, as what each says and asks; their cards aren't used (EMV Book B).
+-- The transactions of a scene's lanes, as what each says and asks; their cards aren't used (after EMV Contactless Book B).
 abbrev pub talks_in : Scene → List (List Talk)
 talks_in s = map (λ lane. map (talk_in s.config) lane) s.lanes
 

@@ -59,7 +59,7 @@ use std::alloc::Global;
 /// # Replays
 ///
 /// The lanes take turns as in a report. Each exchange is compared with the next line of the trace: lane, wave, frame and
-/// waiting number. Where they are the same, the lane hears what the line says. `Done` comes exactly where each exchange has
+/// waiting number. Where they are the same, the lane hears what the line says. `Done` comes only where each exchange has
 /// its line and each line its exchange, and `Mismatch` with the first place where that isn't so, of which what is wanted and
 /// what was sent differ; both with all that was written until then, and `WriteFault` with a first part of it. The probe isn't
 /// asked.

@@ -5,9 +5,9 @@ use Rattle.std.proofs.lemmas.List.{length-replicate}
 use Rattle.std.proofs.lemmas.List.Elements.{All-nil, All-cons, All-head, All-tail}
 use Rattle.std.proofs.lemmas.Bool.Decides.{nat_tests}
 use Rattle.toml.specs.Data.{Items, as_array, as_str}
-use Rattle.ep_base.specs.Air.Fates.{Fate, ArePassages}
+use Rattle.ep_base.specs.Air.Fates.{Fate, AreFates}
 use Rattle.rf_field.specs.declared.fates.FateRun.{FateRun}
-use Rattle.rf_field.specs.Meaning.{clean_passage, run_of, passages, IsRun}
+use Rattle.rf_field.specs.Meaning.{clean_fate, run_of, passages, IsRun}
 use Rattle.doc_table.specs.Fault.{Fault}
 use Rattle.doc_table.specs.declared.fault.TableEnd.{TableEnd}
 use Rattle.doc_table.specs.declared.fault.TableEnd.TheVariants.{NoMemory}
@@ -28,10 +28,10 @@ allowed_ok path z None x e = cc
 accepted_clean : Accepts clean_run IsSome
 accepted_clean = record {
   is = λ path d exchanges e.
-      after (integer_in 1 1000000 path d) (λ count. Ok (replicate count clean_passage)) exchanges e (λ count is e1.
+      after (integer_in 1 1000000 path d) (λ count. Ok (replicate count clean_fate)) exchanges e (λ count is e1.
       let range = (accepted_integer 1 1000000).is path d count is in
-      let same : replicate count clean_passage ≡ exchanges = cc in
-      let some : 0 < length (replicate count clean_passage) = omega (arith, range.0, length-replicate count clean_passage) in
+      let same : replicate count clean_fate ≡ exchanges = cc in
+      let some : 0 < length (replicate count clean_fate) = omega (arith, range.0, length-replicate count clean_fate) in
       subst IsSome same (record { some = some; bursts = clean count }));
 }
 
@@ -70,11 +70,11 @@ accepted_elements : (place : Place) (elements : List (List Fate)) → defaulted 
 accepted_elements place elements e = accepted_defaulted runs (All IsSome) [] (codes "fates") place elements accepted_runs (All-nil IsSome) e
 
 -- The bursts of a transaction's fates are within their bounds.
-pub accepted_fates : (place : Place) (exchanges : List Fate) → fates_at place ≡ Ok exchanges → ArePassages exchanges
+pub accepted_fates : (place : Place) (exchanges : List Fate) → fates_at place ≡ Ok exchanges → AreFates exchanges
 accepted_fates place exchanges e =
     after (defaulted [] runs (codes "fates") place) (λ (elements : List (List Fate)). Ok (flat_map (λ (xs : List Fate). xs) elements)) exchanges e (λ elements is e1.
     let same : flat_map (λ (xs : List Fate). xs) elements ≡ exchanges = cc in
-    subst ArePassages same (all_joined elements (accepted_elements place elements is)))
+    subst AreFates same (all_joined elements (accepted_elements place elements is)))
 
 -- The elements of a list of fates, as runs.
 abbrev pub ReadAs : {V : Type 0} → (V → List FateRun) → Place → Result V TableEnd → Type 0

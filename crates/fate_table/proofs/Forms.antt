@@ -13,7 +13,7 @@ use Rattle.ep_base.specs.Cards.Apdu.{same_bytes}
 use Rattle.ep_base.specs.Streams.Words.{cut}
 use Rattle.doc_table.specs.Read.{is_within, sized}
 use Rattle.fate_table.specs.Tokens.{is_start, start_spelled, mask_of, mask_spelled, cut_at_colon, after_letter, burst_spelled, leg_spelled, passage_spelled}
-use Rattle.fate_table.specs.Forms.{SpellsStart, SpellsMask, SpellsBurst, SpellsLeg, SpellsPassage}
+use Rattle.fate_table.specs.Forms.{SpellsStart, SpellsMask, SpellsBurst, SpellsWay, SpellsFate}
 use Rattle.fate_table.proofs.Cuts.{HasNone, none_append, digits_have_none, hex_has_none, cut_word, cut_is, same_value}
 use Rattle.fate_table.proofs.Spelled.{after_some}
 use Rattle.fate_table.proofs.Starts.{own}
@@ -72,7 +72,7 @@ letter_is (c ∷ rest) text e =
     let h = if_some (c == 98) rest text e in
     rw (eqb-true c 98 h.0, h.1) refl
 
-burst_is : (token : List ℕ) (leg : Way) → burst_spelled token ≡ Some leg → SpellsLeg token leg
+burst_is : (token : List ℕ) (leg : Way) → burst_spelled token ≡ Some leg → SpellsWay token leg
 burst_is token leg e =
     after_some (after_letter token) _ leg e (λ text is_text e1.
     after_some (cut_at_colon text) _ leg e1 (λ parts is_parts e2.
@@ -87,21 +87,21 @@ burst_is token leg e =
       starts = start_is parts.0 start is_start;
       inverts = mask_is parts.1 mask is_mask;
     } in
-    subst (λ (l : Way). SpellsLeg token l) (same_value (Bursts start mask) leg e4) spelt)))) where
+    subst (λ (l : Way). SpellsWay token l) (same_value (Bursts start mask) leg e4) spelt)))) where
       leaning : (digits bits : List ℕ) → codes "b" ++ digits ++ codes ":" ++ bits ≡ 98 ∷ (digits ++ 58 ∷ bits)
       leaning digits bits = simp append_assoc refl
 
-sign_is : (token : List ℕ) (found leg : Way) → SpellsLeg token found → Some found ≡ Some leg → SpellsLeg token leg
-sign_is token found leg spelt e = subst (λ (l : Way). SpellsLeg token l) (same_value found leg e) spelt
+sign_is : (token : List ℕ) (found leg : Way) → SpellsWay token found → Some found ≡ Some leg → SpellsWay token leg
+sign_is token found leg spelt e = subst (λ (l : Way). SpellsWay token l) (same_value found leg e) spelt
 
 leg_by : (token : List ℕ) (leg : Way) (passes loses leaves : Bool) → same_bytes token (codes "-") ≡ passes → same_bytes token (codes "x") ≡ loses → same_bytes token (codes "v") ≡ leaves
-    → (if passes then Some Passes else (if loses then Some Loses else (if leaves then Some Leaves else burst_spelled token))) ≡ Some leg → SpellsLeg token leg
+    → (if passes then Some Passes else (if loses then Some Loses else (if leaves then Some Leaves else burst_spelled token))) ≡ Some leg → SpellsWay token leg
 leg_by token leg true loses leaves is_pass is_lose is_leave e = sign_is token Passes leg (same_text token (codes "-") (sym is_pass)) e
 leg_by token leg false true leaves is_pass is_lose is_leave e = sign_is token Loses leg (same_text token (codes "x") (sym is_lose)) e
 leg_by token leg false false true is_pass is_lose is_leave e = sign_is token Leaves leg (same_text token (codes "v") (sym is_leave)) e
 leg_by token leg false false false is_pass is_lose is_leave e = burst_is token leg e
 
-leg_is : (token : List ℕ) (leg : Way) → leg_spelled token ≡ Some leg → SpellsLeg token leg
+leg_is : (token : List ℕ) (leg : Way) → leg_spelled token ≡ Some leg → SpellsWay token leg
 leg_is token leg e = leg_by token leg (same_bytes token (codes "-")) (same_bytes token (codes "x")) (same_bytes token (codes "v")) refl refl refl e
 
 burst_text : (token : List ℕ) (start mask : ℕ) (s : SpellsBurst token start mask) → token ≡ 98 ∷ (s.digits ++ 58 ∷ s.bits)
@@ -112,7 +112,7 @@ burst_read digits bits start mask starts inverts =
     let colon : cut_at_colon (digits ++ 58 ∷ bits) ≡ Some (digits, bits) = cut_word 58 digits bits (digits_have_none 58 digits (inr (omega arith)) starts.all) in
     rw (colon, start_read digits start starts, mask_read bits mask inverts) refl
 
-leg_read : (token : List ℕ) (leg : Way) → SpellsLeg token leg → leg_spelled token ≡ Some leg
+leg_read : (token : List ℕ) (leg : Way) → SpellsWay token leg → leg_spelled token ≡ Some leg
 leg_read token Passes s = rw s refl
 leg_read token Loses s = rw s refl
 leg_read token Leaves s = rw s refl
@@ -123,13 +123,13 @@ burst_has_none digits bits start mask starts inverts =
     let hex : HasNone 32 bits = hex_has_none bits (decode_of-ok bits (inverts.high ∷ inverts.low ∷ []) inverts.bytes).1 in
     (refl, none_append 32 digits (58 ∷ bits) (digits_have_none 32 digits (inl (omega arith)) starts.all) (refl, hex))
 
-leg_has_none : (token : List ℕ) (leg : Way) → SpellsLeg token leg → HasNone 32 token
+leg_has_none : (token : List ℕ) (leg : Way) → SpellsWay token leg → HasNone 32 token
 leg_has_none token Passes s = rw s (refl, tt)
 leg_has_none token Loses s = rw s (refl, tt)
 leg_has_none token Leaves s = rw s (refl, tt)
 leg_has_none token (Bursts start mask) s = rw (burst_text token start mask s) (burst_has_none s.digits s.bits start mask s.starts s.inverts)
 
-pub read_spells : (text : List ℕ) (passage : Fate) → passage_spelled text ≡ Some passage → SpellsPassage text passage
+pub read_spells : (text : List ℕ) (passage : Fate) → passage_spelled text ≡ Some passage → SpellsFate text passage
 unfolding passage_spelled cut
 read_spells text passage e =
     after_some (cut text) _ passage e (λ parts is_parts e1.
@@ -137,16 +137,16 @@ read_spells text passage e =
     after_some (leg_spelled parts.1) (λ up. Some (record { down = down; up = up })) passage e2 (λ up is_up e3.
     let made : Fate = record { down = down; up = up } in
     let space : text ≡ parts.0 ++ 32 ∷ parts.1 = cut_is 32 text parts is_parts in
-    let spelt : SpellsPassage text made = record {
+    let spelt : SpellsFate text made = record {
       down = parts.0;
       up = parts.1;
       parts = space ∙ (simp append_assoc refl);
       goes_down = leg_is parts.0 down is_down;
       comes_up = leg_is parts.1 up is_up;
     } in
-    subst (λ (p : Fate). SpellsPassage text p) (same_value made passage e3) spelt)))
+    subst (λ (p : Fate). SpellsFate text p) (same_value made passage e3) spelt)))
 
-pub spelt_is_read : (text : List ℕ) (passage : Fate) → SpellsPassage text passage → passage_spelled text ≡ Some passage
+pub spelt_is_read : (text : List ℕ) (passage : Fate) → SpellsFate text passage → passage_spelled text ≡ Some passage
 unfolding passage_spelled cut
 spelt_is_read text passage s =
     let whole : text ≡ s.down ++ 32 ∷ s.up = s.parts ∙ (simp append_assoc refl) in

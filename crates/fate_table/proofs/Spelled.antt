@@ -4,7 +4,7 @@ use Rattle.std.specs.Prelude.{slice_index}
 use Rattle.hex.specs.Hex.{decode_of}
 use Rattle.hex.specs.declared.error.FromHexError.{FromHexError}
 use Rattle.hex.proofs.HexLemmas.{decode_of-ok}
-use Rattle.ep_base.specs.Air.Fates.{Way, Passes, Loses, Bursts, Leaves, IsLeg, Fate}
+use Rattle.ep_base.specs.Air.Fates.{Way, Passes, Loses, Bursts, Leaves, IsWay, Fate}
 use Rattle.ep_base.specs.Cards.Apdu.{same_bytes}
 use Rattle.ep_base.specs.Streams.Words.{◌>>=◌, cut}
 use Rattle.doc_table.specs.Read.{is_within, sized}
@@ -28,26 +28,26 @@ mask_by digits (Err f) mask is e = cc
 mask_small : (digits : List ℕ) (mask : ℕ) → mask_spelled digits ≡ Some mask → mask < 2 ^ 16
 mask_small digits mask e = mask_by digits (decode_of digits) mask refl e
 
-burst_is : (token : List ℕ) (leg : Way) → burst_spelled token ≡ Some leg → IsLeg leg
+burst_is : (token : List ℕ) (leg : Way) → burst_spelled token ≡ Some leg → IsWay leg
 burst_is token leg e =
     after_some (after_letter token) _ leg e (λ text _ e1.
     after_some (cut_at_colon text) _ leg e1 (λ parts _ e2.
     after_some (start_spelled parts.0) _ leg e2 (λ start _ e3.
     after_some (mask_spelled parts.1) (λ mask. Some (Bursts start mask)) leg e3 (λ mask is e4.
     let same : Bursts start mask ≡ leg = cc in
-    subst IsLeg same (mask_small parts.1 mask is)))))
+    subst IsWay same (mask_small parts.1 mask is)))))
 
-leg_by : (passes loses leaves : Bool) (burst : Option Way) (leg : Way) → ((l : Way) → burst ≡ Some l → IsLeg l) → (if passes then Some Passes else (if loses then Some Loses else (if leaves then Some Leaves else burst))) ≡ Some leg → IsLeg leg
-leg_by true loses leaves burst leg is e = let same : Passes ≡ leg = cc in subst IsLeg same tt
-leg_by false true leaves burst leg is e = let same : Loses ≡ leg = cc in subst IsLeg same tt
-leg_by false false true burst leg is e = let same : Leaves ≡ leg = cc in subst IsLeg same tt
+leg_by : (passes loses leaves : Bool) (burst : Option Way) (leg : Way) → ((l : Way) → burst ≡ Some l → IsWay l) → (if passes then Some Passes else (if loses then Some Loses else (if leaves then Some Leaves else burst))) ≡ Some leg → IsWay leg
+leg_by true loses leaves burst leg is e = let same : Passes ≡ leg = cc in subst IsWay same tt
+leg_by false true leaves burst leg is e = let same : Loses ≡ leg = cc in subst IsWay same tt
+leg_by false false true burst leg is e = let same : Leaves ≡ leg = cc in subst IsWay same tt
 leg_by false false false burst leg is e = is leg e
 
-leg_is : (token : List ℕ) (leg : Way) → leg_spelled token ≡ Some leg → IsLeg leg
+leg_is : (token : List ℕ) (leg : Way) → leg_spelled token ≡ Some leg → IsWay leg
 leg_is token leg e = leg_by (same_bytes token (codes "-")) (same_bytes token (codes "x")) (same_bytes token (codes "v")) (burst_spelled token) leg (burst_is token) e
 
 -- The bursts of an exchange that is spelled are within their bounds.
-pub passage_is : (text : List ℕ) (passage : Fate) → passage_spelled text ≡ Some passage → IsLeg passage.down × IsLeg passage.up
+pub passage_is : (text : List ℕ) (passage : Fate) → passage_spelled text ≡ Some passage → IsWay passage.down × IsWay passage.up
 unfolding passage_spelled
 passage_is text passage e =
     after_some (cut text) _ passage e (λ parts _ e1.
@@ -55,4 +55,4 @@ passage_is text passage e =
     after_some (leg_spelled parts.1) (λ up. Some (record { down = down; up = up })) passage e2 (λ up is_up e3.
     let made : Fate = record { down = down; up = up } in
     let same : made ≡ passage = cc in
-    subst (λ (p : Fate). IsLeg p.down × IsLeg p.up) same (leg_is parts.0 down is_down, leg_is parts.1 up is_up))))
+    subst (λ (p : Fate). IsWay p.down × IsWay p.up) same (leg_is parts.0 down is_down, leg_is parts.1 up is_up))))

@@ -2,7 +2,7 @@
 use Rattle.std.specs.Prelude.{codes, pos, List, [], ◌∷◌, length, replicate, flat_map, Result, Ok, if◌then◌else◌}
 use Rattle.toml.specs.Data.{as_array, as_str}
 use Rattle.ep_base.specs.Air.Fates.{Fate}
-use Rattle.rf_field.specs.Meaning.{clean_passage}
+use Rattle.rf_field.specs.Meaning.{clean_fate}
 use Rattle.doc_table.specs.Fault.{Fault}
 use Rattle.doc_table.specs.declared.list.ElementKind.TheVariants.{Integer}
 use Rattle.doc_table.specs.Read.{◌>>=◌, Reader, Place, of_kind, allowed, defaulted, integer_in, is_of, counted, each}
@@ -12,7 +12,7 @@ use Rattle.fate_table.specs.Tokens.{passage_spelled}
 abbrev pub clean_run : Reader (List Fate)
 clean_run path d = do
   count ← integer_in 1 1000000 path d
-  Ok (replicate count clean_passage)
+  Ok (replicate count clean_fate)
 
 -- The one exchange that a text tells of (this project's own).
 abbrev pub told_run : Reader (List Fate)

@@ -29,20 +29,20 @@ pub record SpellsBurst (token : List ℕ) (start mask : ℕ) : Type 0 where
   pub inverts : SpellsMask bits mask
 
 -- What becomes of one frame: a sign, or a burst (this project's own).
-abbrev pub SpellsLeg : List ℕ → Way → Type 0
-SpellsLeg token Passes = token ≡ codes "-"
-SpellsLeg token Loses = token ≡ codes "x"
-SpellsLeg token (Bursts start mask) = SpellsBurst token start mask
-SpellsLeg token Leaves = token ≡ codes "v"
+abbrev pub SpellsWay : List ℕ → Way → Type 0
+SpellsWay token Passes = token ≡ codes "-"
+SpellsWay token Loses = token ≡ codes "x"
+SpellsWay token (Bursts start mask) = SpellsBurst token start mask
+SpellsWay token Leaves = token ≡ codes "v"
 
 -- A text spells what becomes of the frames of one exchange: first the reader's frame, one space, then the answer (this project's own).
-pub record SpellsPassage (text : List ℕ) (passage : Fate) : Type 0 where
+pub record SpellsFate (text : List ℕ) (passage : Fate) : Type 0 where
   pub down : List ℕ
   pub up : List ℕ
   pub parts : text ≡ down ++ codes " " ++ up
-  pub goes_down : SpellsLeg down passage.down
-  pub comes_up : SpellsLeg up passage.up
+  pub goes_down : SpellsWay down passage.down
+  pub comes_up : SpellsWay up passage.up
 
 -- A text is read exactly where it spells what is read (this project's own).
 abbrev pub OneReading : Type 0
-OneReading = (text : List ℕ) (passage : Fate) → (passage_spelled text ≡ Some passage) ↔ SpellsPassage text passage
+OneReading = (text : List ℕ) (passage : Fate) → (passage_spelled text ≡ Some passage) ↔ SpellsFate text passage

@@ -1,7 +1,7 @@
 //! The list of fates.
 ghost use Rattle.std.specs.Prelude.{◌≡◌, ◌+◌, ◌≤◌, length, All, IfOk};
 ghost use Rattle.toml.specs.View.{view};
-ghost use Rattle.ep_base.specs.Air.Fates.{ArePassages};
+ghost use Rattle.ep_base.specs.Air.Fates.{AreFates};
 ghost use Rattle.rf_field.specs.Meaning.{IsRun, passages, run_of};
 ghost use Rattle.doc_table.specs.Read.{Gives, GivesIfRoom};
 ghost use Rattle.doc_table.specs.Section.{place};
@@ -21,7 +21,7 @@ pub fn fates_of(alloc: Global, section: &Section) -> Result<Vec<FateRun>, TableE
     requires { length section.now.path.now + 55 ≤ 96 }
     ensures value { GivesIfRoom (λ v. passages v.items) result (fates_at (place section.now)) }
     ensures runs { IfOk result (λ v. All IsRun v.items) }
-    ensures bursts { IfOk result (λ v. ArePassages (passages v.items)) }
+    ensures bursts { IfOk result (λ v. AreFates (passages v.items)) }
 {
     section.defaulted(alloc, "fates", &FateList, Vec::new(alloc))
 }

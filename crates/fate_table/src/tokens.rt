@@ -1,7 +1,7 @@
 //! The texts that say what becomes of the frames of one exchange.
 ghost use Rattle.std.specs.Prelude.{◌≡◌, ◌<◌, ◌≤◌, ◌^◌, option_map, IfSome};
 ghost use Rattle.std.specs.Str.{all_ascii_digits};
-ghost use Rattle.rf_field.specs.Meaning.{leg_of, passage_of};
+ghost use Rattle.rf_field.specs.Meaning.{way_of, fate_of};
 ghost use Rattle.fate_table.specs.Tokens.{after_letter, burst_spelled, cut_at_colon, leg_spelled, mask_spelled, passage_spelled, start_spelled};
 
 use doc_table::sized;
@@ -14,7 +14,7 @@ const LAST_START: u32 = 4095;
 /// `None` where the text has another form.
 #[tactic(auto, unfolding(crate::specs::Tokens::passage_spelled, ep_base::specs::Streams::Words::cut))]
 pub(crate) fn fate_spelled(text: &str) -> Option<Fate>
-    ensures { option_map passage_of result ≡ passage_spelled text.now }
+    ensures { option_map fate_of result ≡ passage_spelled text.now }
 {
     let (first, second) = text.split_once(' ')?;
     let down = way_spelled(first)?;
@@ -24,7 +24,7 @@ pub(crate) fn fate_spelled(text: &str) -> Option<Fate>
 
 // What becomes of one frame.
 fn way_spelled(token: &str) -> Option<Way>
-    ensures { option_map leg_of result ≡ leg_spelled token.now }
+    ensures { option_map way_of result ≡ leg_spelled token.now }
 {
     match token {
         "-" => Some(Way::Pass),
@@ -36,7 +36,7 @@ fn way_spelled(token: &str) -> Option<Way>
 
 // A burst.
 fn burst_spelled(token: &str) -> Option<Way>
-    ensures { option_map leg_of result ≡ burst_spelled token.now }
+    ensures { option_map way_of result ≡ burst_spelled token.now }
 {
     let text = after_letter(token)?;
     let (digits, hex_digits) = cut_at_colon(text)?;

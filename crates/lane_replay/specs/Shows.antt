@@ -12,11 +12,11 @@ use Rattle.lane_report.specs.Written.{with_text}
 use Rattle.ep_claim.specs.Lanes.ReplayText.{Waiting}
 use Rattle.ep_claim.specs.Lanes.WholeReplay.{LaneReplay}
 
--- What a lane's transactions to come say and ask (EMV Book B).
+-- What a lane's transactions to come say and ask (after EMV Contactless Book B).
 abbrev pub talks_of : Config → LaneWork → List Talk
 talks_of settings work = map (talk_in settings) work.left
 
--- The same of all lanes (EMV Book B).
+-- The same of all lanes (after EMV Contactless Book B).
 abbrev pub all_talks : Config → List LaneWork → List (List Talk)
 all_talks settings works = map (talks_of settings) works
 

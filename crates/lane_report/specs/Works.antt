@@ -9,11 +9,11 @@ use Rattle.ep_claim.specs.Lanes.LaneText.{Job}
 use Rattle.pre_processing.specs.Preparation.{Preparation}
 use Rattle.scenario.specs.Scene.{Work}
 
--- What Start A gives a transaction (EMV Book B).
+-- What Start A gives a transaction (after EMV Contactless Book B).
 abbrev pub preparation : Config → Work → Preparation
 preparation settings w = record { txn_type = w.txn_type; amount = w.amount; list = prepared settings w.txn_type w.amount }
 
--- What a transaction says and asks, with its kernels (EMV Book B).
+-- What a transaction says and asks, with its kernels (after EMV Contactless Book B).
 abbrev pub talk_in : Config → Work → Talk
 talk_in settings w = talk_of (preparation settings w) w.scripts
 

@@ -1,6 +1,6 @@
 //! Laws of a transaction that is taken up again at each exchange, each the contract of a function that does nothing.
 //!
-//! `specs/` states what such a transaction asks, what it makes of each hearing, and the laws.
+//! What such a transaction asks, and what it makes of each hearing, is defined in `ep_claim`; `specs/` states the laws.
 #![tactic(auto)]
 
 ghost use Rattle.law_lane.specs.Following.{EventsGrow, ExchangesAreMade};

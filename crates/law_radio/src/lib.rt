@@ -1,8 +1,7 @@
 //! Laws of what a whole transaction over the radio begins with, each the contract of a function that does nothing: a field
 //! that was just opened, and a talk that its log carries.
 //!
-//! The field and the perfect run are defined in `ep_base`; `specs/` states the laws, and what a transaction over a field
-//! keeps to.
+//! The field is defined in `ep_base`, the perfect run in `ep_rules`, and what a transaction over a field keeps to in `ep_claim`.
 #![tactic(auto)]
 
 ghost use Rattle.ep_rules.specs.EntryPoint.Kernel.{KernelSteps};

@@ -13,13 +13,13 @@ use Rattle.ep_base.specs.Link.Block.{Block, same}
 use Rattle.ep_base.specs.Link.Spelling.{spelled}
 use Rattle.ep_base.specs.Link.CardEnd.{is_halted}
 use Rattle.ep_base.specs.Link.LinkFrames.{LinkSetting}
-use Rattle.ep_base.specs.Air.Fates.{Way, Bursts, Leaves, IsLeg, Fate, ArePassages, next_fate, fates_after, gone_by}
+use Rattle.ep_base.specs.Air.Fates.{Way, Bursts, Leaves, IsWay, Fate, AreFates, next_fate, fates_after, gone_by}
 use Rattle.ep_base.specs.Air.Fates as legs
 use Rattle.ep_base.specs.Link.Wire.{Party, Heeded, unmoved, takes_opened, takes_frame, takes_down, aired, comes_down, comes_back, Wire, moved, wire_heeds, wire_send}
 use Rattle.ep_base.specs.Cards.Field.{Outside, OfA, OfB, outside_after, outside_reply, outside_halted, outside_reset, Placed, Told, untouched, by_link, by_reply, hears_frame, one_hears, CardsHeard, maybe_answer, and_then, all_hear, joined, left_by, leaves, away, Field, all_take, field_hears, field_after, field_send}
 use Rattle.law_round.specs.Inside.{is_inside, is_out, all_out}
 use Rattle.ep_base.specs.Cards.Lawful.{kind_of, names, faces}
-use Rattle.law_round.specs.Acting.{is_leg, are_passages, is_link, linked_at, is_open, party_at, without, shown, OthersStay, FieldActs}
+use Rattle.law_round.specs.Acting.{is_way, are_passages, is_link, linked_at, is_open, party_at, without, shown, OthersStay, FieldActs}
 use Rattle.law_round.proofs.Presenting.{either}
 use Rattle.law_round.proofs.Lawfulness.{frame_keeps, names_send}
 use Rattle.law_round.proofs.Rounds.{faces_left}
@@ -47,29 +47,29 @@ kind_itself : (a : CardKind) → same_kind a a ≡ true
 kind_itself kinds.A = refl
 kind_itself kinds.B = refl
 
-pub leg_is : (l : Way) → is_leg l ≡ true → IsLeg l
+pub leg_is : (l : Way) → is_way l ≡ true → IsWay l
 leg_is legs.Passes e = tt
 leg_is legs.Loses e = tt
 leg_is (Bursts start mask) e = leb-true _ _ e
 leg_is Leaves e = tt
 
-leg_truth : (l : Way) → IsLeg l → is_leg l ≡ true
+leg_truth : (l : Way) → IsWay l → is_way l ≡ true
 leg_truth legs.Passes e = refl
 leg_truth legs.Loses e = refl
 leg_truth (Bursts start mask) e = le-leb _ _ e
 leg_truth Leaves e = refl
 
-pub passages_truth : (fates : List Fate) → ArePassages fates → are_passages fates ≡ true
+pub passages_truth : (fates : List Fate) → AreFates fates → are_passages fates ≡ true
 passages_truth [] e = refl
 passages_truth (f ∷ fates) e = rw (leg_truth f.down e.0, leg_truth f.up e.1, passages_truth fates e.2) refl
 
-pub next_down : (fates : List Fate) → are_passages fates ≡ true → IsLeg (next_fate fates).down
+pub next_down : (fates : List Fate) → are_passages fates ≡ true → IsWay (next_fate fates).down
 next_down [] e = tt
-next_down (f ∷ fates) e = leg_is f.down (and_parts (is_leg f.down) (is_leg f.up && are_passages fates) e).0
+next_down (f ∷ fates) e = leg_is f.down (and_parts (is_way f.down) (is_way f.up && are_passages fates) e).0
 
 next_passages : (fates : List Fate) → are_passages fates ≡ true → are_passages (fates_after fates) ≡ true
 next_passages [] e = refl
-next_passages (f ∷ fates) e = (and_parts (is_leg f.up) (are_passages fates) (and_parts (is_leg f.down) (is_leg f.up && are_passages fates) e).1).1
+next_passages (f ∷ fates) e = (and_parts (is_way f.up) (are_passages fates) (and_parts (is_way f.down) (is_way f.up && are_passages fates) e).1).1
 
 abbrev pub Place : Bool → Outside → Type 0
 Place halted o = (if halted then is_out o else is_inside o) ≡ true

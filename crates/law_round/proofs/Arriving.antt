@@ -3,7 +3,7 @@ use Rattle.std.proofs.Common.{◌≡◌, ℕ, ◌<◌, ◌^◌, ◌&&◌, Bool, 
 use Rattle.ep_base.specs.declared.air.Wave.{Wave}
 use Rattle.ep_base.specs.declared.air.Wave.TheVariants.{AShort, ABare, A, B}
 use Rattle.ep_base.specs.Air.Frame.{HasCheck, is_good, is_bare, hits, after_burst, opened, without_check}
-use Rattle.ep_base.specs.Air.Fates.{Way, Passes, Loses, Bursts, Leaves, IsLeg}
+use Rattle.ep_base.specs.Air.Fates.{Way, Passes, Loses, Bursts, Leaves, IsWay}
 use Rattle.ep_base.specs.Link.Wire.{comes_down}
 use Rattle.rf_frame.proofs.Opening.{after_burst-missed}
 use Rattle.rf_frame.proofs.BurstLaw.{burst_law}
@@ -33,7 +33,7 @@ by_burst ABare start mask b true e m g = Lost
 by_burst A start mask b true e m g = Damaged (after_burst A start mask b) (after_hit A start mask b tt m g e)
 by_burst B start mask b true e m g = Damaged (after_burst B start mask b) (after_hit B start mask b tt m g e)
 
-pub arrives : (leg : Way) (w : Wave) (b : List ℕ) → IsLeg leg → is_good w b ≡ true → Arrival w b (comes_down leg w b)
+pub arrives : (leg : Way) (w : Wave) (b : List ℕ) → IsWay leg → is_good w b ≡ true → Arrival w b (comes_down leg w b)
 arrives Passes w b l g = Whole
 arrives Loses w b l g = Lost
 arrives (Bursts start mask) w b l g = by_burst w start mask b (hits w start mask b) refl l g

@@ -5,18 +5,18 @@ use Rattle.ep_base.specs.Air.Frame.{sealed}
 use Rattle.ep_base.specs.Air.Heard.{Heard, wave_of_kind}
 use Rattle.ep_base.specs.Link.Block.{Deselect}
 use Rattle.ep_base.specs.Link.Spelling.{spelled}
-use Rattle.ep_base.specs.Air.Fates.{Fate, ArePassages}
+use Rattle.ep_base.specs.Air.Fates.{Fate, AreFates}
 use Rattle.ep_base.specs.Link.Wire.{Wire, wire_send}
 use Rattle.law_wire.proofs.Passing.{closes_quietly}
-use Rattle.law_round.specs.Acting.{is_leg, linked_at, are_passages, shown}
+use Rattle.law_round.specs.Acting.{is_way, linked_at, are_passages, shown}
 use Rattle.law_round.specs.Once.{ClosesQuietly}
 use Rattle.law_round.proofs.Acting.{leg_is, field_acts_law}
 
-passages_are : (fates : List Fate) → are_passages fates ≡ true → ArePassages fates
+passages_are : (fates : List Fate) → are_passages fates ≡ true → AreFates fates
 passages_are [] e = tt
 passages_are (f ∷ fates) e =
-    let a = and_parts (is_leg f.down) (is_leg f.up && are_passages fates) e in
-    let b = and_parts (is_leg f.up) (are_passages fates) a.1 in
+    let a = and_parts (is_way f.down) (is_way f.up && are_passages fates) e in
+    let b = and_parts (is_way f.up) (are_passages fates) a.1 in
     (leg_is f.down a.0, leg_is f.up b.0, passages_are fates b.1)
 
 pub closes_quietly_law : ClosesQuietly

@@ -13,7 +13,7 @@ use Rattle.ep_base.specs.Air.Heard.{framed, CardHear, Mute, Sends, Opens, wave_o
 use Rattle.ep_base.specs.Cards.Activation.{bit}
 use Rattle.ep_base.specs.Cards.TypeA.{sel, APlan, AState, Idle, Ready, Active, Protocol, Halted, a_takes, a_opened, a_card, a_select, a_other, ats_of}
 use Rattle.ep_base.specs.Cards.TypeB.{BPlan, BState, BIdle, BReady, BProtocol, b_takes, b_opened, b_card, b_other, atqb_of}
-use Rattle.ep_base.specs.Air.Fates.{Way, IsLeg}
+use Rattle.ep_base.specs.Air.Fates.{Way, IsWay}
 use Rattle.ep_base.specs.Link.Block.{Block, I, RAck, RNak, Deselect, Wtx}
 use Rattle.ep_base.specs.Link.Spelling.{spelled}
 use Rattle.ep_base.specs.Link.Wire.{comes_down}
@@ -183,6 +183,6 @@ by_arrival kind b _ bytes (Damaged x d) e =
     let same : x ≡ bytes = cc in
     subst (λ y. IsBlock (opened (wave_of_kind kind) y)) same (subst (λ y. IsBlock y) (sym d) tt)
 
-pub comes_block : (kind : CardKind) (b : Block) (leg : Way) (bytes : List ℕ) → IsLeg leg → comes_down leg (wave_of_kind kind) (sealed (wave_of_kind kind) (spelled b)) ≡ Some bytes
+pub comes_block : (kind : CardKind) (b : Block) (leg : Way) (bytes : List ℕ) → IsWay leg → comes_down leg (wave_of_kind kind) (sealed (wave_of_kind kind) (spelled b)) ≡ Some bytes
     → IsBlock (opened (wave_of_kind kind) bytes)
 comes_block kind b leg bytes l e = by_arrival kind b (comes_down leg (wave_of_kind kind) (sealed (wave_of_kind kind) (spelled b))) bytes (arrives leg (wave_of_kind kind) (sealed (wave_of_kind kind) (spelled b)) l (block_good kind b)) e

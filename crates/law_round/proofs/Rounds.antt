@@ -11,7 +11,7 @@ use Rattle.ep_base.specs.Air.Heard.{Ask, Heard, Silence, RoundEnd, Empty, Collis
 use Rattle.ep_base.specs.Cards.TypeA.{AStage, Woken, Level, Select, Complete, sel, hlta, is_level, continues, a_asks, a_says, a_hears, after_sak}
 use Rattle.ep_base.specs.Cards.TypeB.{BStage, wupb, attrib_of, after_atqb, b_found, b_hears}
 use Rattle.ep_base.specs.Poll.Round.{Stage, Waking, Halting, WakingB, InA, InB, round_asks, round_hears, in_a, in_b}
-use Rattle.ep_base.specs.Air.Fates.{Way, Passes, Loses, Bursts, Leaves, IsLeg, next_fate, gone_by}
+use Rattle.ep_base.specs.Air.Fates.{Way, Passes, Loses, Bursts, Leaves, IsWay, next_fate, gone_by}
 use Rattle.ep_base.specs.Air.Medium.{MediumSteps, told, Exchanges, ExchangesBy, AfterReset}
 use Rattle.ep_base.specs.Poll.Polling.{AfterExchange, Plays, PlaysRound}
 use Rattle.ep_base.specs.Link.Wire.{comes_down, comes_back}
@@ -206,7 +206,7 @@ module _ (fsdi : ℕ) (stage : Stage) where
   after_up f (Bursts start mask) h o = (o.fits (Bursts start mask), o.opens (Bursts start mask))
   after_up f Leaves h o = (left_away h.cards, silent_none stage)
 
-  here_after : (f : Field) (d u : Way) → IsLeg d → ArePlaced f.cards → AllFits fsdi (Goes stage) f.cards
+  here_after : (f : Field) (d u : Way) → IsWay d → ArePlaced f.cards → AllFits fsdi (Goes stage) f.cards
       → let h = all_take f (wave fsdi stage) (comes_down d (wave fsdi stage) (bytes fsdi stage)) in
       Mode fsdi (follows fsdi stage u h) (gone_by (gone_by false d) u) (if leaves d || leaves u then left_by h.cards else h.cards)
   here_after f Passes u l c h = after_up f u _ (by_arrival fsdi stage f _ Whole c h)
@@ -215,7 +215,7 @@ module _ (fsdi : ℕ) (stage : Stage) where
       after_up f u _ (by_arrival fsdi stage f _ (arrives (Bursts start mask) (wave fsdi stage) (bytes fsdi stage) l (good_frame fsdi stage)) c h)
   here_after f Leaves u l c h = (left_away f.cards, subst (λ x. NoCard (round_hears stage x)) (sym (silent_back u)) (silent_none stage))
 
-  kept_here : (f : Field) (d : Way) → IsLeg d → ArePlaced f.cards → AllFits fsdi (Goes stage) f.cards → Outcome fsdi stage f (all_take f (wave fsdi stage) (comes_down d (wave fsdi stage) (bytes fsdi stage)))
+  kept_here : (f : Field) (d : Way) → IsWay d → ArePlaced f.cards → AllFits fsdi (Goes stage) f.cards → Outcome fsdi stage f (all_take f (wave fsdi stage) (comes_down d (wave fsdi stage) (bytes fsdi stage)))
   kept_here f d l c h = by_arrival fsdi stage f _ (arrives d (wave fsdi stage) (bytes fsdi stage) l (good_frame fsdi stage)) c h
 
   left_or : (gone : Bool) (ps qs : List Placed) → faces ps ≡ faces qs → faces (if gone then left_by ps else ps) ≡ faces qs

@@ -19,16 +19,16 @@ use Rattle.ep_base.specs.Cards.Lawful.{kind_of, names, faces, Lawful}
 use Rattle.law_round.specs.Linked.{HasLink}
 
 -- Whether a burst is one run of at most sixteen bits (this project's own).
-abbrev pub is_leg : Way → Bool
-is_leg Passes = true
-is_leg Loses = true
-is_leg (Bursts start mask) = nat_lt mask (2 ^ 16)
-is_leg Leaves = true
+abbrev pub is_way : Way → Bool
+is_way Passes = true
+is_way Loses = true
+is_way (Bursts start mask) = nat_lt mask (2 ^ 16)
+is_way Leaves = true
 
 -- Whether all bursts of these fates are (this project's own).
 abbrev pub are_passages : List Fate → Bool
 are_passages [] = true
-are_passages (f ∷ fates) = is_leg f.down && (is_leg f.up && are_passages fates)
+are_passages (f ∷ fates) = is_way f.down && (is_way f.up && are_passages fates)
 
 -- Whether the card has the open link: both its rules are of this kind, it is there until the cards are gone, and it is in the block protocol
 -- until it has answered S(DESELECT) (ISO/IEC 14443-4).

@@ -1,6 +1,6 @@
 //! Laws of a run of several lanes, exchange by exchange, each the contract of a function that does nothing.
 //!
-//! `specs/` states the order of the exchanges, what each lane writes with each of its own, the run, and the laws.
+//! The order of the exchanges, what each lane writes with each of its own, and the run are defined in `ep_claim`, with what the laws state.
 #![tactic(auto)]
 
 ghost use Rattle.ep_rules.specs.EntryPoint.Kernel.{KernelSteps};

@@ -5,7 +5,7 @@ use Rattle.ep_base.specs.declared.air.CardKind.{CardKind}
 use Rattle.ep_base.specs.Air.Heard.{Sent as Framed, Heard, Silence, wave_of_kind}
 use Rattle.ep_base.specs.Air.Frame.{sealed}
 use Rattle.ep_base.specs.Air.Medium.{told}
-use Rattle.ep_base.specs.Air.Fates.{ArePassages, AllPass, Way, next_fate, gone_by, later}
+use Rattle.ep_base.specs.Air.Fates.{AreFates, AllPass, Way, next_fate, gone_by, later}
 use Rattle.ep_base.specs.Cards.Apdu.{is_command}
 use Rattle.ep_base.specs.Link.Block.{Block, ReadBlock, other, is_bad, count}
 use Rattle.ep_base.specs.Link.Parts.{cut}
@@ -49,7 +49,7 @@ module _ (set : LinkSetting) (w0 : Wire) (of : OfLink set w0) where
     kind : w.party.kind ≡ set.kind
     frame : w.party.fsd ≡ set.frames.reader
     room : w.room ≡ w0.room
-    fates : ArePassages w.air.fates
+    fates : AreFates w.air.fates
     unhalted : is_halted c ≡ false
 
   module _ (w : Wire) (card : Card) (shows : Shows w card) (b : Block) (is : Sent b) where

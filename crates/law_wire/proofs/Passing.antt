@@ -5,7 +5,7 @@ use Rattle.ep_base.specs.declared.air.CardKind.{CardKind}
 use Rattle.ep_base.specs.declared.air.CardKind.TheVariants as kinds
 use Rattle.ep_base.specs.Air.Heard.{Silence, Noise, Frame, same_wave, wave_of_kind}
 use Rattle.ep_base.specs.Air.Frame.{HasCheck, is_good, is_bare, hits, after_burst, sealed, opened, without_check}
-use Rattle.ep_base.specs.Air.Fates.{Way, Passes, Loses, Bursts, Leaves, IsLeg, Fate, ArePassages, AllPass, next_fate, fates_after}
+use Rattle.ep_base.specs.Air.Fates.{Way, Passes, Loses, Bursts, Leaves, IsWay, Fate, AreFates, AllPass, next_fate, fates_after}
 use Rattle.ep_base.specs.Link.Block.{Block, Deselect, ReadBlock, Bad, Intact, frame_length}
 use Rattle.ep_base.specs.Link.OneLink.{comes_up}
 use Rattle.ep_base.specs.Link.CardEnd.{is_halted}
@@ -68,7 +68,7 @@ module _ (kind : CardKind) (b : Block) where
         listens p (same_wave (wave_of_kind kind) (wave_of_kind p.kind) && not (is_halted p.card)) (not hit) (takes_opened p (opened (wave_of_kind kind) bytes))
         (ap (λ (o : Option (List ℕ)). takes_opened p o) e ∙ takes_it hit)
 
-    leg_down : (leg : Way) → IsLeg leg → (d : Bool) × (takes_down p (wave_of_kind kind) (comes_down leg (wave_of_kind kind) frame) ≡ went d p)
+    leg_down : (leg : Way) → IsWay leg → (d : Bool) × (takes_down p (wave_of_kind kind) (comes_down leg (wave_of_kind kind) frame) ≡ went d p)
     leg_down Passes l = takes_whole frame false (opened_spelled kind b)
     leg_down Loses l = (false, refl)
     leg_down (Bursts start mask) l =
@@ -104,7 +104,7 @@ module _ (kind : CardKind) (b : Block) where
     heard_hit start mask few false e =
         ap (λ (bytes : List ℕ). heard_block kind fsd (Frame (wave_of_kind kind) bytes)) (after_burst-missed (wave_of_kind kind) start mask frame e) ∙ heard_whole
 
-    leg_up : (leg : Way) → IsLeg leg → (up : Bool) × (heard_block kind fsd (comes_back leg (Frame (wave_of_kind kind) frame)) ≡ comes_up up (Some b))
+    leg_up : (leg : Way) → IsWay leg → (up : Bool) × (heard_block kind fsd (comes_back leg (Frame (wave_of_kind kind) frame)) ≡ comes_up up (Some b))
     leg_up Passes l = (true, heard_whole)
     leg_up Loses l = (false, refl)
     leg_up (Bursts start mask) l =
@@ -119,12 +119,12 @@ next_pass [] all = (refl, refl, tt)
 next_pass (f ∷ fates) all = all
 
 -- the next fate, and those after it
-pub next_legs : (fates : List Fate) → ArePassages fates → IsLeg (next_fate fates).down × IsLeg (next_fate fates).up × ArePassages (fates_after fates)
+pub next_legs : (fates : List Fate) → AreFates fates → IsWay (next_fate fates).down × IsWay (next_fate fates).up × AreFates (fates_after fates)
 next_legs [] a = (tt, tt, tt)
 next_legs (f ∷ fates) a = a
 
 -- the card takes the block that was sent, or nothing
-pub down_law : (kind : CardKind) (w : Wire) (b : Block) → is_block b ≡ true → ArePassages w.air.fates
+pub down_law : (kind : CardKind) (w : Wire) (b : Block) → is_block b ≡ true → AreFates w.air.fates
     → (d : Bool) × (wire_heeds w (wave_of_kind kind) (sealed (wave_of_kind kind) (spelled b)) ≡ went kind b d w.party)
 down_law kind w b is fates =
     comes_or_not kind b w.party is (not w.air.gone && nat_lt (length w.log) w.room) (comes_down (next_fate w.air.fates).down (wave_of_kind kind) (sealed (wave_of_kind kind) (spelled b)))
@@ -162,7 +162,7 @@ silent kind fsd (Bursts start mask) = refl
 silent kind fsd Leaves = refl
 
 -- the reader hears the card's answer, or a bad hearing
-pub up_law : (kind : CardKind) (fsd : ℕ) (o : Option Block) → MaySend fsd o → (leg : Way) → IsLeg leg
+pub up_law : (kind : CardKind) (fsd : ℕ) (o : Option Block) → MaySend fsd o → (leg : Way) → IsWay leg
     → (up : Bool) × (heard_block kind fsd (comes_back leg (aired (maybe_frame kind o))) ≡ comes_up up o)
 up_law kind fsd None may leg l = (true, silent kind fsd leg)
 up_law kind fsd (Some b) may leg l = leg_up kind b fsd (sent_block b may.0) may.1 leg l

@@ -1,6 +1,6 @@
 -- A transport's link: the reader of an end that rests, and what a command and a closing leave.
 use Rattle.std.proofs.Common.{◌≡◌, ℕ, Bool, true, List, [], ◌∷◌, ◌++◌, length, Option, Some, None, Ok, Err, refl, sym, ap, ◌∙◌, subst}
-use Rattle.ep_base.specs.Air.Fates.{ArePassages}
+use Rattle.ep_base.specs.Air.Fates.{AreFates}
 use Rattle.ep_base.specs.Link.Block.{ReadBlock, Deselect}
 use Rattle.ep_base.specs.Air.Heard.{Heard, wave_of_kind}
 use Rattle.ep_base.specs.Air.Frame.{sealed}
@@ -153,7 +153,7 @@ pub wire_fails_not : (w : Wire) (set : LinkSetting) (t : Wire) → wire_send w (
 wire_fails_not w set t e = cc (ap (λ (p : Option Heard × Wire). p.0) e)
 
 -- Closing over a wire.
-pub closes_wire : (set : LinkSetting) (w : Wire) (heard : Option Heard) (t : Wire) → ArePassages w.air.fates
+pub closes_wire : (set : LinkSetting) (w : Wire) (heard : Option Heard) (t : Wire) → AreFates w.air.fates
     → wire_send w (wave_of_kind set.kind) (sealed (wave_of_kind set.kind) (spelled Deselect)) ≡ (heard, t) → ClosesWire set w t
 closes_wire set w heard t fates is =
     let after : (wire_send w (wave_of_kind set.kind) (sealed (wave_of_kind set.kind) (spelled Deselect))).1 ≡ t = ap (λ (p : Option Heard × Wire). p.1) is in

@@ -2,7 +2,7 @@
 ghost use Rattle.std.specs.Prelude.{◌≡◌, ◌<◌, Bool, true, false, is_ok, is_some, None, Some, IsOk, IsErr, IsErrOf};
 ghost use Rattle.std.specs.Option.{ForSome};
 ghost use Rattle.block_reader.specs.Stands.{held};
-ghost use Rattle.ep_base.specs.Air.Fates.{ArePassages};
+ghost use Rattle.ep_base.specs.Air.Fates.{AreFates};
 ghost use Rattle.ep_base.specs.Link.Carry.{ActsAs, AtRest, OfLink};
 ghost use Rattle.ep_base.specs.Streams.Causes.{HasCause};
 ghost use Rattle.ep_base.specs.Poll.Radio.{ClosesOver, OpenLink, Radio, RadioPresents, TransactsOver, has_collision, radio};
@@ -135,7 +135,7 @@ impl<M: Medium> Transport for RfTransport<M> {
         ensures presented { is_some self.new.link ≡ false }
         ensures cause { HasCause (M.faults self.old.medium) (M.faults self.new.medium) (IsErr result) }
         ensures once { (good : M.State → Bool) (shown : M.State → Wire) (l : OpenLink) → link_of self.old.link ≡ Some l → ActsAs M.steps l.set good shown →
-            good (M.state self.old.medium) ≡ true → ArePassages (shown (M.state self.old.medium)).air.fates →
+            good (M.state self.old.medium) ≡ true → AreFates (shown (M.state self.old.medium)).air.fates →
             IsOk result × ClosesWire l.set (shown (M.state self.old.medium)) (shown (M.state self.new.medium))
             × (good (M.state self.new.medium) ≡ true) }
     {

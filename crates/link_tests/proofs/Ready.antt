@@ -5,7 +5,7 @@ use Rattle.ep_base.specs.declared.air.CardKind.{CardKind}
 use Rattle.ep_base.specs.Air.Medium.{told}
 use Rattle.ep_base.specs.Link.Dialogue.{opened}
 use Rattle.ep_base.specs.Cards.CardAnswer.{Image, IsImage}
-use Rattle.ep_base.specs.Air.Fates.{Fate, ArePassages}
+use Rattle.ep_base.specs.Air.Fates.{Fate, AreFates}
 use Rattle.ep_base.specs.Link.LinkFrames.{LinkSetting}
 use Rattle.ep_base.specs.Link.Wire.{Wire, wire, new_wire}
 use Rattle.ep_base.specs.Link.Carry.{ActsAs, OfLink, Executed}
@@ -14,22 +14,22 @@ use Rattle.card_image.proofs.Kept.{card_answer_keeps}
 use Rattle.link.specs.Carried.{Agrees}
 use Rattle.rf_field.specs.declared.fates.FateRun.{FateRun}
 use Rattle.rf_field.specs.declared.fates.FateRun.TheVariants.{Clean, One}
-use Rattle.rf_field.specs.Meaning.{IsRun, clean_passage, run_of, passages}
+use Rattle.rf_field.specs.Meaning.{IsRun, clean_fate, run_of, passages}
 use Rattle.link_tests.specs.Open.{IsReady}
 
-passages_append : (xs ys : List Fate) → ArePassages xs → ArePassages ys → ArePassages (xs ++ ys)
+passages_append : (xs ys : List Fate) → AreFates xs → AreFates ys → AreFates (xs ++ ys)
 passages_append [] ys a b = b
 passages_append (x ∷ xs) ys a b = (a.0, a.1, passages_append xs ys a.2 b)
 
-all_clean : (n : ℕ) → ArePassages (replicate n clean_passage)
+all_clean : (n : ℕ) → AreFates (replicate n clean_fate)
 all_clean zero = tt
 all_clean (suc n) = (tt, tt, all_clean n)
 
-of_run : (run : FateRun) → IsRun run → ArePassages (run_of run)
+of_run : (run : FateRun) → IsRun run → AreFates (run_of run)
 of_run (Clean count) h = all_clean count
 of_run (One fate) h = (h.0, h.1, tt)
 
-pub all_fates : (runs : List FateRun) → All IsRun runs → ArePassages (passages runs)
+pub all_fates : (runs : List FateRun) → All IsRun runs → AreFates (passages runs)
 all_fates [] h = tt
 all_fates (run ∷ runs) h = passages_append (run_of run) (passages runs) (of_run run (All-head IsRun run runs h)) (all_fates runs (All-tail IsRun run runs h))
 
@@ -43,7 +43,7 @@ acts set s b heard t good sent = (sent, refl)
 
 pub just_opened : (e : Held) (w : Wire) (kind : CardKind) (fsd : ℕ) (image : Image) (fates : List Fate) (room : ℕ) →
     w ≡ new_wire kind fsd image fates room → e.set.kind ≡ kind → e.set.frames.reader ≡ fsd → 16 ≤ e.set.frames.card → 16 ≤ e.set.frames.reader →
-    e.set.frames.reader ≤ 256 → IsImage image → ArePassages fates → 2 ≤ room → Rests e opened → IsReady e w
+    e.set.frames.reader ≤ 256 → IsImage image → AreFates fates → 2 ≤ room → Rests e opened → IsReady e w
 just_opened e w kind fsd image fates room is k f card least most im fs ro rests =
     subst (λ (v : Wire). IsReady e v) (sym is) (record {
       reader = opened;

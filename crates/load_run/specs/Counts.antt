@@ -46,7 +46,7 @@ added a b = record {
   exchanges = a.exchanges + b.exchanges;
 }
 
--- The outcome that an event tells, if it tells one (EMV Book B).
+-- The outcome that an event tells, if it tells one (after EMV Contactless Book B).
 abbrev pub outcome_in : Said → List OutcomeKind
 outcome_in (Tells (Start txn_type amount)) = []
 outcome_in (Tells (Pre number one)) = []
@@ -60,7 +60,7 @@ outcome_in (End ending) = []
 outcome_in EndLink = []
 outcome_in EndBreach = []
 
--- The last outcome among events, if there is one (EMV Book B).
+-- The last outcome among events, if there is one (after EMV Contactless Book B).
 abbrev pub last_outcome : List Said → Option OutcomeKind
 last_outcome events = last_or None (flat_map outcome_in events)
 
@@ -91,7 +91,7 @@ counts_of events log exchanges =
     counted_by (last_outcome events) (last_or None events)
     (record nothing { apdus = apdus events; executed = length log; exchanges = exchanges })
 
--- A transaction that is about to begin, as what it says and asks, and its field (EMV Book B).
+-- A transaction that is about to begin, as what it says and asks, and its field (after EMV Contactless Book B).
 abbrev pub job_of : Config → Work → Job
 job_of settings w = record {
   talk = transaction scripted w.txn_type w.amount (prepared settings w.txn_type w.amount) w.scripts;

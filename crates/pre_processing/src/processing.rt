@@ -1,6 +1,6 @@
 //! Pre-Processing.
 ghost use Rattle.std.specs.Prelude.{◌≡◌, ◌<◌, ◌≤◌, IfSome};
-ghost use Rattle.ep_rules.specs.EntryPoint.PreProcessing.{reaches, exceeds, floor_limit, refuses_zero, is_online_only, is_zero, indicators, needs_online, second_byte, marked, prepared_one, prepared};
+ghost use Rattle.ep_rules.specs.EntryPoint.PreProcessing.{reaches, exceeds, floor_limit, refuses_zero, is_offline_only, is_zero, indicators, needs_online, second_byte, marked, prepared_one, prepared};
 
 use crate::{Indicators, Prepared, PreparedOne};
 use acquirer_config::{Combination, Config};
@@ -46,7 +46,7 @@ fn indicators_of(exponent: u8, amount: u64, combination: &Combination) -> Indica
     Indicators {
         not_allowed: reaches(amount, combination.limit)
             || refused
-            || zero && is_online_only(combination.ttq),
+            || zero && is_offline_only(combination.ttq),
         status: combination.status_check && amount == 10u64.pow(u32::from(exponent)),
         zero,
         floor: exceeds(amount, combination.floor.or(combination.terminal_floor)),
@@ -68,9 +68,9 @@ fn exceeds(amount: u64, limit: Option<u64>) -> bool
     limit.is_some_and(|limit| amount > limit)
 }
 
-// TTQ byte 1 bit 4: the reader can go online alone.
-fn is_online_only(ttq: Option<[u8; 4]>) -> bool
-    ensures { result ≡ is_online_only ttq }
+// TTQ byte 1 bit 4: an offline-only reader.
+fn is_offline_only(ttq: Option<[u8; 4]>) -> bool
+    ensures { result ≡ is_offline_only ttq }
 {
     match ttq {
         Some(ttq) => ttq[0] & 0x08 != 0,
@@ -83,7 +83,7 @@ fn marked(indicators: Indicators, ttq: Option<[u8; 4]>) -> Option<[u8; 4]>
     ensures { result ≡ marked indicators ttq }
 {
     let mut bytes = ttq?;
-    let online = indicators.floor || indicators.status || indicators.zero && !is_online_only(ttq);
+    let online = indicators.floor || indicators.status || indicators.zero && !is_offline_only(ttq);
     bytes[1] = bytes[1] % 64 + 128 * u8::from(online) + 64 * u8::from(indicators.cvm);
     Some(bytes)
 }

@@ -4,23 +4,23 @@ use Rattle.std.proofs.lemmas.List.{at_drop_more}
 use Rattle.std.proofs.lemmas.List.Elements.{All-get_or}
 use Rattle.ep_base.specs.Air.Fates.{Fate, next_fate, fates_after}
 use Rattle.rf_field.specs.declared.fates.FateRun.{FateRun}
-use Rattle.rf_field.specs.Meaning.{IsRun, clean_passage, run_of, passages}
+use Rattle.rf_field.specs.Meaning.{IsRun, clean_fate, run_of, passages}
 
-pub left_at : (runs : List FateRun) (at clean : ℕ) (run is_run : FateRun) (now : List Fate) → clean ≡ 0 → at < length runs → run ≡ get_or runs at run → run ≡ is_run → replicate clean clean_passage ++ passages (drop at runs) ≡ now → run_of is_run ++ passages (drop (at + 1) runs) ≡ now
+pub left_at : (runs : List FateRun) (at clean : ℕ) (run is_run : FateRun) (now : List Fate) → clean ≡ 0 → at < length runs → run ≡ get_or runs at run → run ≡ is_run → replicate clean clean_fate ++ passages (drop at runs) ≡ now → run_of is_run ++ passages (drop (at + 1) runs) ≡ now
 left_at runs at clean run is_run now none within found same is =
     ap (λ (r : FateRun). run_of r ++ passages (drop (at + 1) runs)) (sym same ∙ found)
     ∙ sym (at_drop_more passages runs at run within)
-    ∙ ap (λ (n : ℕ). replicate n clean_passage ++ passages (drop at runs)) (sym none)
+    ∙ ap (λ (n : ℕ). replicate n clean_fate ++ passages (drop at runs)) (sym none)
     ∙ is
 
 pub run_fits : (runs : List FateRun) (at : ℕ) (run is_run : FateRun) → All IsRun runs → at < length runs → run ≡ get_or runs at run → run ≡ is_run → IsRun is_run
 run_fits runs at run is_run all within found same =
     subst (λ (r : FateRun). IsRun r) (sym found ∙ same) (All-get_or IsRun runs at run within all)
 
-pub next_clean : (count : ℕ) (rest : List Fate) → 1 ≤ count → clean_passage ≡ next_fate (replicate count clean_passage ++ rest)
+pub next_clean : (count : ℕ) (rest : List Fate) → 1 ≤ count → clean_fate ≡ next_fate (replicate count clean_fate ++ rest)
 next_clean zero rest le = absurd (omega arith)
 next_clean (suc k) rest le = refl
 
-pub after_clean : (count : ℕ) (rest : List Fate) → 1 ≤ count → replicate (count - 1) clean_passage ++ rest ≡ fates_after (replicate count clean_passage ++ rest)
+pub after_clean : (count : ℕ) (rest : List Fate) → 1 ≤ count → replicate (count - 1) clean_fate ++ rest ≡ fates_after (replicate count clean_fate ++ rest)
 after_clean zero rest le = absurd (omega arith)
-after_clean (suc k) rest le = let less : suc k - 1 ≡ k = omega arith in ap (λ (n : ℕ). replicate n clean_passage ++ rest) less
+after_clean (suc k) rest le = let less : suc k - 1 ≡ k = omega arith in ap (λ (n : ℕ). replicate n clean_fate ++ rest) less

@@ -1,6 +1,6 @@
 -- What the fates of frames stand for in plain data (this project's own).
 use Rattle.std.specs.Prelude.{◌≤◌, List, [], ◌∷◌, ◌++◌, replicate}
-use Rattle.ep_base.specs.Air.Fates.{Way as Leg, Passes, Loses, Bursts, Leaves, IsLeg, Fate as Passage}
+use Rattle.ep_base.specs.Air.Fates.{Way as Leg, Passes, Loses, Bursts, Leaves, IsWay, Fate as Passage}
 use Rattle.rf_field.specs.declared.fates.Way.{Way}
 use Rattle.rf_field.specs.declared.fates.Way.TheVariants as way
 use Rattle.rf_field.specs.declared.fates.Fate.{Fate}
@@ -8,24 +8,24 @@ use Rattle.rf_field.specs.declared.fates.FateRun.{FateRun}
 use Rattle.rf_field.specs.declared.fates.FateRun.TheVariants.{Clean, One}
 
 -- What becomes of one frame.
-abbrev pub leg_of : Way → Leg
-leg_of way.Pass = Passes
-leg_of way.Lose = Loses
-leg_of (way.Burst burst) = Bursts burst.start burst.mask
-leg_of way.Leave = Leaves
+abbrev pub way_of : Way → Leg
+way_of way.Pass = Passes
+way_of way.Lose = Loses
+way_of (way.Burst burst) = Bursts burst.start burst.mask
+way_of way.Leave = Leaves
 
 -- What becomes of the frames of one exchange.
-abbrev pub passage_of : Fate → Passage
-passage_of f = record { down = leg_of f.down; up = leg_of f.up }
+abbrev pub fate_of : Fate → Passage
+fate_of f = record { down = way_of f.down; up = way_of f.up }
 
 -- All frames pass.
-abbrev pub clean_passage : Passage
-clean_passage = record { down = Passes; up = Passes }
+abbrev pub clean_fate : Passage
+clean_fate = record { down = Passes; up = Passes }
 
 -- The exchanges of a run, one by one.
 abbrev pub run_of : FateRun → List Passage
-run_of (Clean count) = replicate count clean_passage
-run_of (One fate) = passage_of fate ∷ []
+run_of (Clean count) = replicate count clean_fate
+run_of (One fate) = fate_of fate ∷ []
 
 -- The exchanges of all runs, one by one (this project's own).
 abbrev pub passages : List FateRun → List Passage
@@ -35,4 +35,4 @@ passages (run ∷ runs) = run_of run ++ passages runs
 -- A run has at least one exchange, and its bursts have at most sixteen bits (this project's own).
 abbrev pub IsRun : FateRun → Type 0
 IsRun (Clean count) = 1 ≤ count
-IsRun (One fate) = IsLeg (leg_of fate.down) × IsLeg (leg_of fate.up)
+IsRun (One fate) = IsWay (way_of fate.down) × IsWay (way_of fate.up)

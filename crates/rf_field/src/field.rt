@@ -6,7 +6,7 @@ ghost use Rattle.ep_base.specs.Air.Medium.{told};
 ghost use Rattle.ep_base.specs.Cards.Field as plain;
 ghost use Rattle.rf_frame.specs.Meaning.{heard_of, maybe_heard};
 ghost use Rattle.rf_field.specs.Fields.{field_of, hears_by};
-ghost use Rattle.rf_field.specs.Meaning.{IsRun, leg_of, passage_of, passages};
+ghost use Rattle.rf_field.specs.Meaning.{IsRun, way_of, fate_of, passages};
 ghost use Rattle.rf_field.specs.Plans.{PlanFits, placed_plan};
 ghost use Rattle.rf_field.specs.Presences.{lists_of};
 
@@ -100,10 +100,10 @@ impl Field {
     // What is in the air after a frame that takes this way down.
     fn carry_down(&mut self, way: Way, wave: Wave, frame: &FrameBuf) -> Heard
         ensures field { field_of self.new ≡ record (field_of self.old) {
-          cards = (hears_by (field_of self.old) (leg_of way) wave frame.now.items).cards;
-          log = (hears_by (field_of self.old) (leg_of way) wave frame.now.items).log;
+          cards = (hears_by (field_of self.old) (way_of way) wave frame.now.items).cards;
+          log = (hears_by (field_of self.old) (way_of way) wave frame.now.items).log;
         } }
-        ensures heard { heard_of result ≡ plain.joined (hears_by (field_of self.old) (leg_of way) wave frame.now.items).answers }
+        ensures heard { heard_of result ≡ plain.joined (hears_by (field_of self.old) (way_of way) wave frame.now.items).answers }
     {
         match comes_down(way, wave, frame) {
             None => Heard::Silence,
@@ -114,8 +114,8 @@ impl Field {
     // The cards leave where this fate says so.
     fn depart(&mut self, fate: Fate)
         ensures { field_of self.new ≡ record (field_of self.old) {
-          cards = (if plain.away (passage_of fate) then plain.left_by (field_of self.old).cards else (field_of self.old).cards);
-          air = record { fates = (field_of self.old).air.fates; gone = gone_by (gone_by (field_of self.old).air.gone (leg_of fate.down)) (leg_of fate.up) };
+          cards = (if plain.away (fate_of fate) then plain.left_by (field_of self.old).cards else (field_of self.old).cards);
+          air = record { fates = (field_of self.old).air.fates; gone = gone_by (gone_by (field_of self.old).air.gone (way_of fate.down)) (way_of fate.up) };
         } }
     {
         if fate.down == Way::Leave || fate.up == Way::Leave {

@@ -4,7 +4,7 @@ ghost use Rattle.std.specs.Option.{option_map};
 ghost use Rattle.ep_base.specs.Air.Frame.{is_bare as bare};
 ghost use Rattle.ep_base.specs.Link.Wire as plain;
 ghost use Rattle.rf_frame.specs.Meaning.{heard_of};
-ghost use Rattle.rf_field.specs.Meaning.{leg_of};
+ghost use Rattle.rf_field.specs.Meaning.{way_of};
 
 use crate::fates::Way;
 use ep_base::{FrameBuf, Wave};
@@ -35,7 +35,7 @@ fn burst_down(wave: Wave, frame: &FrameBuf, burst: Burst) -> Option<FrameBuf>
 
 // A frame as it comes down to the cards, or `None` where no card hears it.
 pub(crate) fn comes_down(way: Way, wave: Wave, frame: &FrameBuf) -> Option<FrameBuf>
-    ensures { option_map (λ f. f.items) result ≡ plain.comes_down (leg_of way) wave frame.now.items }
+    ensures { option_map (λ f. f.items) result ≡ plain.comes_down (way_of way) wave frame.now.items }
 {
     match way {
         Way::Pass => Some(copy_frame(frame)),
@@ -66,7 +66,7 @@ fn burst_up(heard: Heard, burst: Burst) -> Heard
 
 // What the reader hears of what is in the air.
 pub(crate) fn comes_back(way: Way, heard: Heard) -> Heard
-    ensures { heard_of result ≡ plain.comes_back (leg_of way) (heard_of heard) }
+    ensures { heard_of result ≡ plain.comes_back (way_of way) (heard_of heard) }
 {
     match way {
         Way::Pass => heard,

@@ -1,7 +1,7 @@
 //! The fates that are left of a list.
 ghost use Rattle.std.specs.Prelude.{◌≡◌, All};
 ghost use Rattle.ep_base.specs.Air.Fates.{next_fate, fates_after};
-ghost use Rattle.rf_field.specs.Meaning.{IsRun, passage_of, passages};
+ghost use Rattle.rf_field.specs.Meaning.{IsRun, fate_of, passages};
 
 use crate::fates::{Fate, FateRun, Way};
 use std::marker::Model;
@@ -24,11 +24,11 @@ pub(crate) struct Fates {
 impl Model for Fates {
     ghost use Rattle.std.specs.Prelude.{List, ◌++◌, replicate, drop, All};
     ghost use Rattle.ep_base.specs.Air.Fates.{Fate as Passage};
-    ghost use Rattle.rf_field.specs.Meaning.{IsRun, clean_passage, passages};
+    ghost use Rattle.rf_field.specs.Meaning.{IsRun, clean_fate, passages};
 
     ghost Value = { List Passage };
 
-    ghost view = { λ f. replicate f.clean clean_passage ++ passages (drop f.at f.runs.items) };
+    ghost view = { λ f. replicate f.clean clean_fate ++ passages (drop f.at f.runs.items) };
 
     ghost invariant = { λ f. All IsRun f.runs.items };
 }
@@ -48,7 +48,7 @@ impl Fates {
 
     // The fate of the next exchange: all frames pass after the end of the list.
     pub(crate) fn next(&mut self) -> Fate
-        ensures fate { passage_of result ≡ next_fate self.old }
+        ensures fate { fate_of result ≡ next_fate self.old }
         ensures after { self.new ≡ fates_after self.old }
     {
         if self.clean > 0 {

@@ -4,7 +4,7 @@ ghost use Rattle.ep_base.specs.Streams.Causes.{HasCause};
 ghost use Rattle.ep_base.specs.Air.Medium.{told};
 ghost use Rattle.ep_base.specs.Link.Wire as plain;
 ghost use Rattle.rf_frame.specs.Meaning.{maybe_heard};
-ghost use Rattle.rf_field.specs.Meaning.{IsRun, leg_of, passages};
+ghost use Rattle.rf_field.specs.Meaning.{IsRun, way_of, passages};
 ghost use Rattle.rf_field.specs.Wires.{wire_of, heeds_by};
 
 use crate::fates::{FateRun, Way};
@@ -75,10 +75,10 @@ impl Wire {
     // The card's answer to a frame that takes this way down.
     fn carry_down(&mut self, way: Way, wave: Wave, frame: &FrameBuf) -> Option<Sent>
         ensures wire { wire_of self.new ≡ record (wire_of self.old) {
-          party = (heeds_by (wire_of self.old) (leg_of way) wave frame.now.items).party;
-          log = (wire_of self.old).log ++ (heeds_by (wire_of self.old) (leg_of way) wave frame.now.items).executed;
+          party = (heeds_by (wire_of self.old) (way_of way) wave frame.now.items).party;
+          log = (wire_of self.old).log ++ (heeds_by (wire_of self.old) (way_of way) wave frame.now.items).executed;
         } }
-        ensures answer { result ≡ (heeds_by (wire_of self.old) (leg_of way) wave frame.now.items).answer }
+        ensures answer { result ≡ (heeds_by (wire_of self.old) (way_of way) wave frame.now.items).answer }
     {
         if self.gone || self.log.spare() == 0 {
             return None;

@@ -1,8 +1,8 @@
 -- What holds of a document that is accepted (this project's profile).
 use Rattle.std.specs.Prelude.{◌≤◌, All, List, length}
 use Rattle.std.specs.Option.{ForSome}
-use Rattle.ep_base.specs.Air.Fates.{ArePassages}
-use Rattle.ep_rules.specs.EntryPoint.Configuration.{AreSettings}
+use Rattle.ep_base.specs.Air.Fates.{AreFates}
+use Rattle.ep_rules.specs.EntryPoint.Configuration.{IsConfig}
 use Rattle.ep_base.specs.Cards.Lawful.{ArePlaced, AreApart, names}
 use Rattle.ep_base.specs.Cards.Numbers.{AreDistinct, numbers}
 use Rattle.card_table.specs.Placing.{placed_from}
@@ -18,7 +18,7 @@ pub record IsLawful (t : Transaction) : Type 0 where
   pub apart : AreApart (names (placed_from 1 t.cards))
   pub distinct : AreDistinct (numbers (placed_from 1 t.cards))
   pub presence : ArePresences (length t.cards) t.presence
-  pub fates : ArePassages t.fates
+  pub fates : AreFates t.fates
   pub scripts : AreScripts t.scripts
 
 -- A lane: 1 to 64 transactions (this project's profile).
@@ -30,7 +30,7 @@ pub record IsLane (lane : List Transaction) : Type 0 where
 -- A document: the limits of its configuration, 1 to 8 lanes, a frame size code of at most 8, at most 4096 turns, which are those of its lanes, and a
 -- trace, where there is one, of at most 65536 lines (this project's profile).
 pub record IsAccepted (p : Plan) : Type 0 where
-  pub config : AreSettings p.config
+  pub config : IsConfig p.config
   pub fsdi : p.fsdi ≤ 8
   pub some : 1 ≤ length p.lanes
   pub few : length p.lanes ≤ 8

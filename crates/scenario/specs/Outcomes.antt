@@ -14,7 +14,7 @@ use Rattle.ep_claim.specs.Text.ReportLine.{kind_word, message_row}
 use Rattle.ep_rules.specs.EntryPoint.Event.{Verdict}
 use Rattle.doc_table.specs.Read.{◌>>=◌, Reader, of_kind, allowed}
 
--- The kinds of outcome (EMV Book B).
+-- The kinds of outcome (after EMV Contactless Book B).
 abbrev pub all_kinds : List OutcomeKind
 all_kinds =
     outcomes.SelectNext ∷ outcomes.TryAgain ∷ outcomes.Approved ∷ outcomes.Declined ∷ outcomes.OnlineRequest

@@ -74,21 +74,21 @@ pub record FailedIn (end : End) (heard : Heard) (doing : Doing) (link : Option H
   pub link_is : link ≡ Some e
   pub fails : FailsOver end heard over e
 
--- An outcome is among these events (EMV Book B).
+-- An outcome is among these events (after EMV Contactless Book B).
 pub record HasOutcome (said : List Said) : Type 0 where
   pub before : List Said
   pub kind : OutcomeKind
   pub after : List Said
   pub said_is : said ≡ before ++ Tells (Outcome kind) ∷ after
 
--- Before the end of a transaction that was carried through, an outcome was said (EMV Book B).
+-- Before the end of a transaction that was carried through, an outcome was said (after EMV Contactless Book B).
 abbrev pub EndDecided : End → List Said → Type 0
 EndDecided ending.Done before = HasOutcome before
 EndDecided ending.Link before = Unit {0}
 EndDecided ending.NoCard before = Unit {0}
 EndDecided ending.Breach before = Unit {0}
 
--- The last of these events is this end, and an outcome stands before it (EMV Book B).
+-- The last of these events is this end, and an outcome stands before it (after EMV Contactless Book B).
 pub record IsDecided (end : End) (said : List Said) : Type 0 where
   pub before : List Said
   pub last : said ≡ before ++ said_of_end end ∷ []

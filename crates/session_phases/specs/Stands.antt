@@ -106,7 +106,7 @@ RoundTurned fsdi link (plain.Ask ask step) talk st said next = StepRolls fsdi li
 RoundTurned fsdi link (plain.Ended end) talk st said next = EndsSo end talk st said
 
 module _ {S : Type 0} (k : KernelSteps S) (ones : List Ready) (s : S) where
-  -- A round of a Start B is made (EMV Book B).
+  -- A round of a Start B is made (after EMV Contactless Book B).
   abbrev pub InRound : ℕ → Bool → (S → Talk) → Talk → Type 0
   InRound left collided again t = t ≡ polls left collided (presented k again ones s)
 

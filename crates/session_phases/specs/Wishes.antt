@@ -44,7 +44,7 @@ abbrev pub RestartsLeft : KernelStep → ℕ → ℕ → Type 0
 RestartsLeft (Send command) old new = new ≤ old
 RestartsLeft (Done verdict) old new = RestartsFall verdict.kind old new
 
--- Before the close at which a transaction ends, an outcome was said (EMV Book B).
+-- Before the close at which a transaction ends, an outcome was said (after EMV Contactless Book B).
 abbrev pub CloseDecided : Bool → List Said → Type 0
 CloseDecided true said = Unit {0}
 CloseDecided false said = HasOutcome said
@@ -74,15 +74,15 @@ module _ {S : Type 0} (k : KernelSteps S) (ones : List Ready) where
     pub comes : Comes talk results said rest
 
   module _ (s : S) where
-    -- A candidate is to be selected (EMV Book B).
+    -- A candidate is to be selected (after EMV Contactless Book B).
     abbrev pub Selects : (S → Talk) → List Candidate → Talk → Type 0
     Selects again left t = t ≡ selects k again left s
 
-    -- A kernel's verdict is to be followed (EMV Book B).
+    -- A kernel's verdict is to be followed (after EMV Contactless Book B).
     abbrev pub Decides : Verdict → (S → Talk) → List Candidate → Talk → Type 0
     Decides v again left t = t ≡ after_verdict again (selects k again left) v s
 
-    -- A kernel is to be activated (EMV Book B).
+    -- A kernel is to be activated (after EMV Contactless Book B).
     abbrev pub Activates : Activation → (S → Talk) → List Candidate → Talk → Type 0
     Activates g again left t = t ≡ activates k (after_verdict again (selects k again left)) g s
 
@@ -96,13 +96,13 @@ module _ {S : Type 0} (k : KernelSteps S) (ones : List Ready) where
     Hears answer again left t =
         (n : ℕ) × (k.commands s < n) × (t ≡ kernel_runs k (after_verdict again (selects k again left)) n s (Some answer))
 
-    -- A candidate's final SELECT was answered so (EMV Book B).
+    -- A candidate's final SELECT was answered so (after EMV Contactless Book B).
     abbrev pub Chosen : Activation → List ℕ → (S → Talk) → List Candidate → Talk → Type 0
     Chosen given answer again left t =
         (x : Candidate) × (given ≡ given_to x [])
         × (t ≡ (if is_9000 answer then activates k (after_verdict again (selects k again left)) (given_to x answer) s else selects k again left s))
 
-    -- A candidate's final SELECT is to be answered (EMV Book B).
+    -- A candidate's final SELECT is to be answered (after EMV Contactless Book B).
     abbrev pub Offers : List ℕ → Activation → (S → Talk) → List Candidate → Talk → Type 0
     Offers command given again left t =
         (x : Candidate) × (command ≡ final_command x) × (given ≡ given_to x []) × (t ≡ selects k again (x ∷ left) s)
@@ -121,15 +121,15 @@ module _ {S : Type 0} (k : KernelSteps S) (ones : List Ready) where
     pub comes : Comes talk results said rest
 
   module _ (s : S) where
-    -- The directory was answered so (EMV Book B).
+    -- The directory was answered so (after EMV Contactless Book B).
     abbrev pub Lists : List ℕ → (S → Talk) → Talk → Type 0
     Lists answer again t = t ≡ Say (Candidates (length (candidates ones (directory answer)))) (selects k again (candidates ones (directory answer)) s)
 
-    -- The directory is to be answered (EMV Book B).
+    -- The directory is to be answered (after EMV Contactless Book B).
     abbrev pub Looks : List ℕ → (S → Talk) → Talk → Type 0
     Looks command again t = (command ≡ select ppse_name) × (t ≡ start_c k again ones s)
 
-    -- The card is to be let go, before a new Start B or the end (EMV Book B).
+    -- The card is to be let go, before a new Start B or the end (after EMV Contactless Book B).
     abbrev pub Closes : Bool → (S → Talk) → Talk → Type 0
     Closes true again t = t ≡ Close (again s)
     Closes false again t = t ≡ ends

@@ -14,16 +14,16 @@ pub record Fate : Type 0 where
   pub up : Way
 
 -- A burst is one run of at most sixteen bits (this project's own).
-abbrev pub IsLeg : Way → Type 0
-IsLeg Passes = Unit {0}
-IsLeg Loses = Unit {0}
-IsLeg (Bursts start mask) = mask < 2 ^ 16
-IsLeg Leaves = Unit {0}
+abbrev pub IsWay : Way → Type 0
+IsWay Passes = Unit {0}
+IsWay Loses = Unit {0}
+IsWay (Bursts start mask) = mask < 2 ^ 16
+IsWay Leaves = Unit {0}
 
 -- So are all of these fates (this project's own).
-abbrev pub ArePassages : List Fate → Type 0
-ArePassages [] = Unit {0}
-ArePassages (f ∷ fates) = IsLeg f.down × IsLeg f.up × ArePassages fates
+abbrev pub AreFates : List Fate → Type 0
+AreFates [] = Unit {0}
+AreFates (f ∷ fates) = IsWay f.down × IsWay f.up × AreFates fates
 
 -- The fates that are left, and whether the cards are gone.
 pub record Air : Type 0 where

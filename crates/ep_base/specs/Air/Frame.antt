@@ -1,4 +1,4 @@
--- Good frames and bursts.
+-- Good frames (ISO/IEC 14443-3, frame formats) and bursts (this project's own).
 use Rattle.std.specs.Prelude.{slice_index, nat_lt, ◌<◌, ◌+◌, ◌≡◌, ℕ, ◌-◌, ◌*◌, ◌/◌, ◌%◌, ◌^◌, ◌==◌, ◌&&◌, Bool, true, false, not, nat_le, List, [], ◌∷◌, ◌++◌, length, take, drop, bit_xor, min, Option, Some, None, if◌then◌else◌}
 use Rattle.std.specs.Str.{bytes_eq}
 use Rattle.std.specs.Int.{bit_at}

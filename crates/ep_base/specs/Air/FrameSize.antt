@@ -1,4 +1,4 @@
--- Frame sizes.
+-- Frame sizes (ISO/IEC 14443-4, FSDI and FSCI; the codes 9 to F count as 256 bytes: this project's profile).
 use Rattle.std.specs.Prelude.{ℕ, ◌+◌, ◌*◌, ◌==◌, nat_lt, if◌then◌else◌}
 use Rattle.ep_base.specs.declared.limits.TheConstants.{FRAME}
 

@@ -1,4 +1,4 @@
--- What is asked and heard in the air, and how a poll round ends, as plain data.
+-- What is asked and heard in the air, and how a poll round ends, as plain data (this project's profile, after ISO/IEC 14443-3).
 use Rattle.std.specs.Prelude.{ℕ, Bool, true, false, List, Option, Some, None, if◌then◌else◌}
 use Rattle.ep_base.specs.declared.air.Wave.{Wave}
 use Rattle.ep_base.specs.declared.air.Wave.TheVariants.{AShort, ABare, A, B}

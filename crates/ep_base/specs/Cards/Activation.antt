@@ -1,4 +1,4 @@
--- What an ATS and an ATQB say, and why bytes are none.
+-- What an ATS (ISO/IEC 14443-4, answer to select) and an ATQB (ISO/IEC 14443-3, ATQB response) say, and why bytes are none.
 use Rattle.std.specs.Prelude.{ℕ, ◌+◌, ◌/◌, ◌%◌, ◌==◌, nat_lt, not, List, length, slice_index, take, drop, Result, Ok, Err, if◌then◌else◌}
 use Rattle.ep_base.specs.declared.activation.Ats.{Ats}
 use Rattle.ep_base.specs.declared.activation.AtsFault.{AtsFault}

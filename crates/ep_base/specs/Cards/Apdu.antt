@@ -22,7 +22,7 @@ command_data bytes = if nat_lt 5 (length bytes) then take (slice_index bytes 4) 
 abbrev pub select : List ℕ → List ℕ
 select name = 0x00 ∷ 0xa4 ∷ 0x04 ∷ 0x00 ∷ length name ∷ name ++ 0x00 ∷ []
 
--- The name of the Proximity Payment System Environment, 2PAY.SYS.DDF01 (EMV Book B).
+-- The name of the Proximity Payment System Environment, 2PAY.SYS.DDF01 (after EMV Contactless Book B).
 abbrev pub ppse_name : List ℕ
 ppse_name = 0x32 ∷ 0x50 ∷ 0x41 ∷ 0x59 ∷ 0x2e ∷ 0x53 ∷ 0x59 ∷ 0x53 ∷ 0x2e ∷ 0x44 ∷ 0x44 ∷ 0x46 ∷ 0x30 ∷ 0x31 ∷ []
 

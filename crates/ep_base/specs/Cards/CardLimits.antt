@@ -1,4 +1,4 @@
--- What bounds the answers of a card that was activated.
+-- What bounds the frame size and the waiting time of a card that was activated (ISO/IEC 14443-4; this project's profile).
 use Rattle.std.specs.Prelude.{ℕ, ◌≤◌}
 use Rattle.ep_base.specs.Air.Heard.{Activated, RoundEnd, Empty, Collision, Unsupported, Broken, Found}
 use Rattle.ep_base.specs.declared.limits.TheConstants.{FRAME}

@@ -6,7 +6,7 @@ use Rattle.ep_base.specs.declared.air.Wave.{Wave}
 use Rattle.ep_base.specs.Cards.TypeA.{APlan, AState, Idle, Ready, Active, Protocol, Halted, levels}
 use Rattle.ep_base.specs.Cards.TypeB.{BPlan}
 use Rattle.ep_base.specs.Cards.CardAnswer.{Image, IsImage, deselected}
-use Rattle.ep_base.specs.Air.Fates.{Fate, ArePassages}
+use Rattle.ep_base.specs.Air.Fates.{Fate, AreFates}
 use Rattle.ep_base.specs.Cards.Field.{Outside, OfA, OfB, outside_reset, Placed, Field, placed_a, placed_b, new_field, field_reset, field_send}
 
 -- A UID of 4, 7 or 10 bytes. A cascade tag neither begins one of 4 bytes nor is the fourth byte of one of 7 (ISO/IEC 14443-3).
@@ -79,7 +79,7 @@ AreApart (n ∷ ns) = IsApart n ns × AreApart ns
 pub record Lawful (f : Field) : Type 0 where
   pub cards : ArePlaced f.cards
   pub apart : AreApart (names f.cards)
-  pub fates : ArePassages f.air.fates
+  pub fates : AreFates f.air.fates
 
 -- What stays of a card in a round: its plan, its kind, and its image (this project's own).
 pub record Face : Type 0 where
@@ -102,7 +102,7 @@ abbrev pub BeginsLawful : Type 0
 BeginsLawful =
     ((plan : APlan) (image : Image) → IsUid plan.uid → IsImage image → IsPlaced (placed_a plan image))
     × ((plan : BPlan) (image : Image) → IsFour plan.pupi → IsImage image → IsPlaced (placed_b plan image))
-    × ((cards : List Placed) (presence : List (List ℕ)) (fates : List Fate) (room : ℕ) → ArePlaced cards → AreApart (names cards) → ArePassages fates →
+    × ((cards : List Placed) (presence : List (List ℕ)) (fates : List Fate) (room : ℕ) → ArePlaced cards → AreApart (names cards) → AreFates fates →
     Lawful (new_field cards presence fates room))
 
 -- A reset and an exchange, of whatever frame, leave the field lawful (this project's own).

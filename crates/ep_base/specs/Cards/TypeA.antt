@@ -1,4 +1,5 @@
--- Type A outside the block protocol: a poll round's steps with a card, and the card's states.
+-- Type A outside the block protocol: a poll round's steps with a card, and the card's states (ISO/IEC 14443-3 Type A, command set, select sequence
+-- and PICC states; ISO/IEC 14443-4, request for answer to select).
 use Rattle.std.specs.Prelude.{ℕ, ◌+◌, ◌-◌, ◌*◌, ◌/◌, ◌%◌, ◌==◌, nat_lt, Bool, ◌&&◌, List, [], ◌∷◌, ◌++◌, length, slice_index, take, drop, bit_xor, Option, Some, None, Result, Ok, Err, if◌then◌else◌}
 use Rattle.std.specs.Str.{bytes_eq}
 use Rattle.ep_base.specs.declared.air.Wave.{Wave}

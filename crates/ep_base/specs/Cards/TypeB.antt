@@ -1,4 +1,5 @@
--- Type B outside the block protocol: a poll round's steps with a card, and the card's states.
+-- Type B outside the block protocol: a poll round's steps with a card, and the card's states (ISO/IEC 14443-3 Type B, REQB/WUPB command, ATQB
+-- response and ATTRIB command).
 use Rattle.std.specs.Prelude.{ℕ, ◌+◌, ◌*◌, ◌%◌, ◌==◌, nat_lt, Bool, not, ◌&&◌, List, [], ◌∷◌, ◌++◌, length, slice_index, Option, Some, None, Result, Ok, Err, if◌then◌else◌}
 use Rattle.std.specs.Str.{bytes_eq}
 use Rattle.ep_base.specs.declared.air.Wave.{Wave}

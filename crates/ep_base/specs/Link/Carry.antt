@@ -1,4 +1,4 @@
--- One command over an open link, carried by a medium: the frames that the reader's end asks, each answered by the medium.
+-- One command over an open link, carried by a medium: the frames that the reader's end asks, each answered by the medium (this project's own).
 use Rattle.std.specs.Prelude.{◌≡◌, ◌⊎◌, ℕ, ◌+◌, ◌≤◌, true, false, Bool, List, [], ◌∷◌, ◌++◌, length, Option, Some, None}
 use Rattle.ep_base.specs.Air.Heard.{Heard, wave_of_kind}
 use Rattle.ep_base.specs.Air.Frame.{sealed}
@@ -10,7 +10,7 @@ use Rattle.ep_base.specs.Link.Spelling.{spelled}
 use Rattle.ep_base.specs.Link.LinkFrames.{LinkSetting, wait_of, heard_block}
 use Rattle.ep_base.specs.Cards.Apdu.{is_command}
 use Rattle.ep_base.specs.Cards.CardAnswer.{IsImage, card_answer}
-use Rattle.ep_base.specs.Air.Fates.{ArePassages}
+use Rattle.ep_base.specs.Air.Fates.{AreFates}
 use Rattle.ep_base.specs.Link.Wire.{Party, Wire, wire_send, wire}
 use Rattle.ep_base.specs.declared.limits.TheConstants.{FRAME}
 
@@ -55,7 +55,7 @@ pub record OfLink (set : LinkSetting) (w : Wire) : Type 0 where
   pub reader_least : 16 ≤ set.frames.reader
   pub reader_most : set.frames.reader ≤ FRAME
   pub image : IsImage w.party.image
-  pub fates : ArePassages w.air.fates
+  pub fates : AreFates w.air.fates
   pub room : length w.log + 2 ≤ w.room
 
 -- The log is unchanged, or has one more record, this command (this project's own).
@@ -69,7 +69,7 @@ pub record Executed (w : Wire) (command : List ℕ) (t : Wire) : Type 0 where
   pub image : t.party.image ≡ (card_answer w.party.image command).1
   pub kind : t.party.kind ≡ w.party.kind
   pub frame : t.party.fsd ≡ w.party.fsd
-  pub fates : ArePassages t.air.fates
+  pub fates : AreFates t.air.fates
   pub room : t.room ≡ w.room
 
 -- What a command comes to: answered, it was executed exactly once and has its card's own response, and both ends are at rest again; spent, three

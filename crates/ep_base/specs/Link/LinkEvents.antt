@@ -1,4 +1,5 @@
--- The reader's end of a link as a function of all that was begun and heard since the link was opened, with the exchanges that it keeps.
+-- The reader's end of a link as a function of all that was begun and heard since the link was opened, with the exchanges that it keeps (this
+-- project's own).
 use Rattle.std.specs.Prelude.{◌≡◌, ℕ, Bool, true, false, if◌then◌else◌, List, [], ◌∷◌, ◌++◌}
 use Rattle.ep_base.specs.Air.Heard.{Heard, wave_of_kind}
 use Rattle.ep_base.specs.Air.Frame.{sealed}

@@ -1,4 +1,5 @@
--- The block protocol in frames: what a block looks like in the air, and what a frame says as a block.
+-- The block protocol in frames: what a block looks like in the air, and what a frame says as a block (ISO/IEC 14443-4, block format and frame
+-- waiting time).
 use Rattle.std.specs.Prelude.{ℕ, ◌*◌, ◌^◌, ◌==◌, min, nat_le, Bool, true, false, if◌then◌else◌, List, [], ◌∷◌, ◌++◌, length, Option, Some, None}
 use Rattle.ep_base.specs.declared.air.CardKind.{CardKind}
 use Rattle.ep_base.specs.declared.air.Wave.{Wave}

@@ -1,4 +1,4 @@
--- The blocks of the half-duplex protocol as bytes, without check bytes.
+-- The blocks of the half-duplex protocol as bytes, without check bytes (ISO/IEC 14443-4, block format).
 use Rattle.std.specs.Prelude.{ℕ, ◌+◌, ◌-◌, ◌*◌, ◌/◌, ◌%◌, ◌==◌, ◌&&◌, ◌||◌, nat_le, Bool, true, false, if◌then◌else◌, List, [], ◌∷◌}
 use Rattle.ep_base.specs.Link.Block.{Block, I, RAck, RNak, Deselect, Wtx}
 use Rattle.ep_base.specs.declared.blocks.BlockFault.{BlockFault}

@@ -1,4 +1,4 @@
--- The directory of a response to SELECT PPSE (EMV Book B; the first object of a tag counts: this project's profile).
+-- The directory of a response to SELECT PPSE (after EMV Contactless Book B; the first object of a tag counts: this project's profile).
 use Rattle.std.specs.Prelude.{ℕ, zero, suc, ◌+◌, ◌==◌, ◌&&◌, nat_le, Bool, false, List, [], ◌∷◌, length, if◌then◌else◌, Some, None}
 use Rattle.std.specs.declared.option.Option.{Option}
 use Rattle.ep_base.specs.Objects.Forest.{Forest, nothing, padding, primitive, constructed, tag_number}

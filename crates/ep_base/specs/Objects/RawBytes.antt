@@ -1,4 +1,4 @@
--- A block of bytes, as the calls on it see it.
+-- A block of bytes, as the calls on it see it (this project's own).
 use Rattle.std.specs.Prelude.{ℕ, ◌+◌, List, [], ◌++◌, take, drop, refl}
 use Rattle.std.specs.Coded.{Coded, code_by, coded×, coded_list, coded_ℕ}
 

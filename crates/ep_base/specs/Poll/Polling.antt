@@ -1,4 +1,4 @@
--- Poll rounds over a medium, and how polling for a card ends.
+-- Poll rounds over a medium, and how polling for a card ends (this project's profile, after EMV Contactless Book D).
 use Rattle.std.specs.Prelude.{◌≡◌, ℕ, zero, suc, List, [], ◌∷◌, Option, Some, None}
 use Rattle.ep_base.specs.Air.Heard.{Activated, Heard, RoundEnd, Empty, Collision, Unsupported, Broken, Found, Turn, Goes, Ends}
 use Rattle.ep_base.specs.Air.Medium.{MediumSteps, Exchanges}

@@ -1,4 +1,4 @@
--- A transport over a medium: rounds until a card comes, its link, and how the link is closed.
+-- A transport over a medium: rounds until a card comes, its link, and how the link is closed (this project's own).
 use Rattle.std.specs.Prelude.{◌≡◌, ◌||◌, ℕ, Bool, true, false, List, [], ◌∷◌, Option, Some, None}
 use Rattle.ep_base.specs.Air.FrameSize.{frame_size}
 use Rattle.ep_base.specs.Air.Heard.{Activated, Heard, RoundEnd, Empty, Collision, Unsupported, Broken, Found}

@@ -1,4 +1,4 @@
--- A poll round: each frame, and the end, by the reader's FSDI and the answers heard before.
+-- A poll round: each frame, and the end, by the reader's FSDI and the answers heard before (this project's profile, after EMV Contactless Book D).
 use Rattle.std.specs.Prelude.{ℕ, Bool, true, false, List, [], ◌∷◌, if◌then◌else◌}
 use Rattle.ep_base.specs.declared.air.Wave.TheVariants.{AShort, A, B}
 use Rattle.ep_base.specs.Air.Heard.{Ask, asks, Heard, is_silent, Turn, Goes, Ends, Empty, Collision}

@@ -4,7 +4,7 @@ use Rattle.std.specs.Str.{bytes_eq}
 use Rattle.ep_base.specs.declared.air.CardKind.{CardKind}
 use Rattle.ep_base.specs.Air.Heard.{Activated, same_kind}
 use Rattle.ep_base.specs.Cards.CardAnswer.{Image}
-use Rattle.ep_base.specs.Air.Fates.{Fate, ArePassages}
+use Rattle.ep_base.specs.Air.Fates.{Fate, AreFates}
 use Rattle.ep_base.specs.Cards.Field.{Placed, new_field, no_party}
 use Rattle.ep_base.specs.Cards.Lawful.{kind_of, id_of, names, ArePlaced, AreApart}
 use Rattle.ep_claim.specs.Promise.Perfection.{IsNew}
@@ -28,5 +28,5 @@ image_in (p ∷ ps) n = if p.party.image.number == n then p.party.image else ima
 abbrev pub NewFieldIsNew : Type 0
 NewFieldIsNew =
     (cards : List Placed) (presence : List (List ℕ)) (fates : List Fate) (room fsdi : ℕ) →
-    ArePlaced cards → AreApart (names cards) → AreDistinct (numbers cards) → ArePassages fates →
+    ArePlaced cards → AreApart (names cards) → AreDistinct (numbers cards) → AreFates fates →
     IsNew (number_in cards) (image_in cards) (record { medium = new_field cards presence fates room; fsdi = fsdi; link = None })

@@ -1,4 +1,4 @@
--- Start C, Combination Selection (EMV Book B; ties, requested kernel 0 and the priority key 16 are this project's profile).
+-- Start C, Combination Selection (after EMV Contactless Book B; ties, requested kernel 0 and the priority key 16 are this project's profile).
 use Rattle.std.specs.Prelude.{ℕ, ◌+◌, ◌*◌, ◌/◌, ◌%◌, ◌==◌, ◌&&◌, ◌||◌, nat_lt, nat_le, nat_eq, Bool, true, false, List, [], ◌∷◌, ◌++◌, length, if◌then◌else◌, Some, None}
 use Rattle.std.specs.declared.option.Option.{Option}
 use Rattle.std.specs.List.{starts_with}
@@ -7,7 +7,7 @@ use Rattle.ep_rules.specs.EntryPoint.Configuration.{Combination}
 use Rattle.ep_rules.specs.EntryPoint.PreProcessing.{Ready, is_allowed}
 use Rattle.ep_base.specs.Objects.Directory.{Entry, is_named}
 
--- The kernel that the first five bytes of an ADF Name ask for, and 0 for any other (EMV Book B).
+-- The kernel that the first five bytes of an ADF Name ask for, and 0 for any other (after EMV Contactless Book B).
 abbrev pub kernel_of_name : List ℕ → ℕ
 kernel_of_name name =
     if starts_with nat_eq name (0xa0 ∷ 0x00 ∷ 0x00 ∷ 0x00 ∷ 0x04 ∷ []) then 2

@@ -50,7 +50,7 @@ pub record AreCombinations (list : List Combination) : Type 0 where
   pub count : length list ≤ 64
   pub of_a_type : (txn_type : ℕ) → count_of txn_type list ≤ TYPE_COMBINATIONS
 
--- Config within their limits.
-pub record AreSettings (settings : Config) : Type 0 where
+-- A configuration within its limits (this project's profile).
+pub record IsConfig (settings : Config) : Type 0 where
   pub exponent : settings.exponent ≤ 4
   pub list : AreCombinations settings.list

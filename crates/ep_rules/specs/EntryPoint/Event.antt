@@ -1,4 +1,4 @@
--- What a transaction reports (after EMV Book B; the form of the events is this project's own).
+-- What a transaction reports (after EMV Contactless Book B; the form of the events is this project's own).
 use Rattle.std.specs.Prelude.{ℕ, List}
 use Rattle.std.specs.declared.option.Option.{Option}
 use Rattle.ep_base.specs.declared.air.CardKind.{CardKind}

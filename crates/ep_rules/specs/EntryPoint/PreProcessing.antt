@@ -1,4 +1,4 @@
--- Start A, Pre-Processing (EMV Book B; the choices on zero amounts and on the order of the TTQ bits are this project's profile).
+-- Start A, Pre-Processing (after EMV Contactless Book B; the choices on zero amounts and on the order of the TTQ bits are this project's profile).
 use Rattle.std.specs.Prelude.{ℕ, ◌+◌, ◌%◌, ◌^◌, ◌==◌, ◌&&◌, ◌||◌, not, nat_le, nat_lt, Bool, true, false, List, map, filter, [], ◌∷◌, slice_index, slice_set, bit_and, if◌then◌else◌, Some, None}
 use Rattle.std.specs.declared.option.Option.{Option}
 use Rattle.ep_rules.specs.EntryPoint.Configuration.{Combination, Config}
@@ -37,17 +37,17 @@ abbrev pub refuses_zero : Option Bool → Bool
 refuses_zero None = false
 refuses_zero (Some allowed) = not allowed
 
--- TTQ byte 1 bit 4: the reader can go online alone.
-abbrev pub is_online_only : Option (List ℕ) → Bool
-is_online_only None = false
-is_online_only (Some ttq) = not (bit_and (slice_index ttq 0) 0x08 == 0)
+-- TTQ byte 1 bit 4: an offline-only reader (EMV Contactless Book A, TTQ).
+abbrev pub is_offline_only : Option (List ℕ) → Bool
+is_offline_only None = false
+is_offline_only (Some ttq) = not (bit_and (slice_index ttq 0) 0x08 == 0)
 
 abbrev pub is_zero : Combination → ℕ → Bool
 is_zero c amount = (amount == 0) && not (refuses_zero c.zero_allowed)
 
 abbrev pub indicators : ℕ → ℕ → Combination → Indicators
 indicators exponent amount c = record {
-  not_allowed = reaches amount c.limit || ((amount == 0) && refuses_zero c.zero_allowed || is_zero c amount && is_online_only c.ttq);
+  not_allowed = reaches amount c.limit || ((amount == 0) && refuses_zero c.zero_allowed || is_zero c amount && is_offline_only c.ttq);
   status = c.status_check && (amount == 10 ^ exponent);
   zero = is_zero c amount;
   floor = exceeds amount (floor_limit c.floor c.terminal_floor);
@@ -56,7 +56,7 @@ indicators exponent amount c = record {
 
 -- An online cryptogram is required.
 abbrev pub needs_online : Indicators → Option (List ℕ) → Bool
-needs_online i ttq = i.floor || (i.status || i.zero && not (is_online_only ttq))
+needs_online i ttq = i.floor || (i.status || i.zero && not (is_offline_only ttq))
 
 -- Byte 2 with its bits 8 and 7 set anew: an online cryptogram is required, a cardholder verification is required.
 abbrev pub second_byte : Indicators → Option (List ℕ) → ℕ → ℕ

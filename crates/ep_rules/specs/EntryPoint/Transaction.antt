@@ -1,4 +1,4 @@
--- The transaction of Entry Point, starts A to D, as a talk (EMV Book B, with this project's profile).
+-- The transaction of Entry Point, starts A to D, as a talk (after EMV Contactless Book B, with this project's profile).
 use Rattle.std.specs.Prelude.{ℕ, zero, suc, ◌+◌, false, List, [], ◌∷◌, length, Some, None, if◌then◌else◌}
 use Rattle.std.specs.declared.option.Option.{Option}
 use Rattle.ep_base.specs.declared.outcome.OutcomeKind.{OutcomeKind}
