@@ -1,1 +1,2 @@
 //! The definitions of Entry Point: this project's profile, after EMV Contactless Book B, over plain data.
+#![tactic(auto)]
