@@ -1,5 +1,6 @@
 use Rattle.ep_program.proofs.Given.{play_not_long, taken_without}
 use Rattle.ep_program.proofs.Ready.{opened_ready}
+use Rattle.ep_program.proofs.Replaying.{replayed}
 use Rattle.ep_program.proofs.replay.replay_document.Goals as goal
 
 pub play-requires : goal.play-requires
@@ -8,3 +9,7 @@ play-requires g c = record { ready = opened_ready _ _ c.in-Ok.ensures.ok }
 pub returns-in-Ok-clause-given : goal.returns-in-Ok-clause-given
 returns-in-Ok-clause-given g c =
     taken_without _ _ _ (play_not_long c.in-Ok.scenario (g.K.Sink.written c.args.output.now) (g.K.Sink.written c.play.new.output) c.play.result c.play.ensures.plays) c.in-Ok.ensures.given
+
+pub returns-in-Ok-clause-replays : goal.returns-in-Ok-clause-replays
+returns-in-Ok-clause-replays g c =
+    replayed (g.S.Source.left c.args.input.now) (g.K.Sink.written c.args.output.now) (g.K.Sink.written c.play.new.output) c.in-Ok.scenario c.in-Ok.ensures.ok c.play.result c.play.ensures.plays
