@@ -102,9 +102,9 @@ is_none None e = refl
 is_none (Some x) e = let never : true ≡ false = e in cc
 
 -- a transaction is open where something is asked
-pub is_some-open_by : {S : Type 0} (w : View S) (o : Option Ask) → is_some (open_by w o) ≡ is_some o
-is_some-open_by w None = refl
-is_some-open_by w (Some ask) = refl
+pub is_some-open_by : {S : Type 0} (w : View S) (o : Bool) (ask : Ask) → is_some (open_by w o ask) ≡ o
+is_some-open_by w false ask = refl
+is_some-open_by w true ask = refl
 
 -- what holds, holds after an error
 pub on_err : {X E P : Type 0} (r : Result X E) → P → OnErr r P

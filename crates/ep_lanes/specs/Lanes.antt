@@ -85,23 +85,23 @@ abbrev pub made_of : Exchange → Made
 made_of e = record { lane = e.lane; asked = e.ask; heard = heard_of e.heard }
 
 -- An exchange, if one was made (this project's own).
-abbrev pub maybe_made : Option Exchange → Option Made
-maybe_made None = None
-maybe_made (Some e) = Some (made_of e)
+abbrev pub maybe_made : Bool → Exchange → Option Made
+maybe_made false e = None
+maybe_made true e = Some (made_of e)
 
--- A session's transaction, where it asks something (this project's own).
-abbrev pub open_by : {S : Type 0} → View S → Option Ask → Option (OpenTransaction S)
-open_by v None = None
-open_by v (Some ask) = Some (record { session = v; asks = ask })
+-- A session's transaction with what it asks next, where one is open (this project's own).
+abbrev pub open_by : {S : Type 0} → View S → Bool → Ask → Option (OpenTransaction S)
+open_by v false ask = None
+open_by v true ask = Some (record { session = v; asks = ask })
 
 -- A lane, by what its kernels hold (this project's own).
 abbrev pub lane_held : {K S : Type 0} {b : _} → (K → S) → (opened fresh : K → Bool) → Lane K b → LaneHeld S
-lane_held state opened fresh l = record { live = l.live; transaction = open_by (view_of state opened fresh l.session) l.ask }
+lane_held state opened fresh l = record { live = l.live; transaction = open_by (view_of state opened fresh l.session) l.opened l.ask }
 
 -- All lanes, by what their kernels hold (this project's own).
 abbrev pub lanes_of : {K S : Type 0} {b : _} → (K → S) → (opened fresh : K → Bool) → Lanes K b → Held S
 lanes_of state opened fresh l = record {
   lanes = map (lane_held state opened fresh) l.lanes.items;
   order = record { turns = drop l.past l.turns.items; last = l.taken };
-  last = maybe_made l.last;
+  last = maybe_made l.told l.last;
 }

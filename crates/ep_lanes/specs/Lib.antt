@@ -1,3 +1,4 @@
+pub mod Causes
 pub mod Lanes
 pub mod Probing
 pub mod Saying

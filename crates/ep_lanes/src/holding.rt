@@ -1,5 +1,5 @@
 //! What several lanes hold.
-ghost use Rattle.std.specs.Prelude.{◌≡◌, ◌≤◌, ◌&&◌, is_some, vec_len};
+ghost use Rattle.std.specs.Prelude.{◌≡◌, ◌≤◌, ◌&&◌, vec_len};
 ghost use Rattle.entry_session.specs.Turns.{view_of, is_open};
 
 use crate::exchange::Exchange;
@@ -7,13 +7,14 @@ use entry_session::Session;
 use kernel_port::Kernels;
 use rf_frame::Ask;
 
-/// One lane: its session, what its open transaction asks next, and whether it is live.
+/// One lane: its session, whether a transaction is open, what that asks next, and whether the lane is live.
 #[derive(Drop)]
 pub(crate) struct Lane<K: Kernels> {
     pub(crate) session: Session<K>,
-    pub(crate) ask: Option<Ask>,
+    pub(crate) opened: bool,
+    pub(crate) ask: Ask,
     pub(crate) live: bool,
-    ghost asking: { is_some ask ≡ (live && is_open (view_of K.state K.is_open K.is_fresh session)) },
+    ghost asking: { opened ≡ (live && is_open (view_of K.state K.is_open K.is_fresh session)) },
 }
 
 /// Several lanes, numbered from 1, each with a session that runs its transactions with kernels of one type. One lane makes
@@ -26,7 +27,9 @@ pub struct Lanes<K: Kernels> {
     pub(crate) past: usize,
     // The lane that was taken last after the turn list's end, and 0 before that.
     pub(crate) taken: u8,
-    pub(crate) last: Option<Exchange>,
+    // Whether the last turn made an exchange, and that one.
+    pub(crate) told: bool,
+    pub(crate) last: Exchange,
     ghost few: { vec_len lanes ≤ 8 },
     ghost within: { taken ≤ vec_len lanes },
 }

@@ -1,5 +1,5 @@
 //! One lane.
-ghost use Rattle.std.specs.Prelude.{◌≡◌, ◌<◌, ◌++◌, ℕ, true, false, None, Some, is_some, IfOk, IfErr, OnErr, IsErr};
+ghost use Rattle.std.specs.Prelude.{◌≡◌, ◌<◌, ◌++◌, ℕ, true, false, None, Some, IfOk, IfErr, OnErr, IsErr};
 ghost use Rattle.arrayvec.specs.ArrayVec.{array_vec_len};
 ghost use Rattle.ep_base.specs.Streams.Causes.{HasCause};
 ghost use Rattle.ep_rules.specs.EntryPoint.Transaction.{transaction};
@@ -7,30 +7,31 @@ ghost use Rattle.ep_base.specs.Air.Heard.{Ask as Asked};
 ghost use Rattle.ep_rules.specs.EntryPoint.Talk.{Talk};
 ghost use Rattle.ep_claim.specs.Lanes.Standing.{Standing, events_of, started};
 ghost use Rattle.entry_session.specs.Turns.{is_ask};
+ghost use Rattle.rf_frame.specs.Meaning.{heard_of};
 ghost use Rattle.session_phases.specs.Told.{told_by};
+ghost use Rattle.ep_lanes.specs.Causes.{ShowsBeginCause, ShowsCause};
 ghost use Rattle.ep_lanes.specs.Lanes.{lane_held, made_of, new_lane};
 ghost use Rattle.ep_lanes.specs.Turns.{Makes, Fails, Stands, Tells};
-ghost use Rattle.ep_lanes.specs.Saying.{ask_in, turned_of, is_goes};
+ghost use Rattle.ep_lanes.specs.Saying.{turned_by, is_goes};
 
-use crate::exchange::{Exchange, Turned};
+use crate::exchange::{Exchange, Turned, nothing};
 use crate::holding::Lane;
 use crate::probe::Probe;
-use entry_session::{Session, Turn};
+use entry_session::{End, Session};
 use ep_base::NoMemory;
 use kernel_port::Kernels;
 use pre_processing::Prepared;
-use rf_frame::{Ask, Medium, RfFailed, exchange};
+use rf_frame::{Medium, RfFailed, exchange};
 use session_event::EventList;
 use std::alloc::Global;
 
-/// What a session's answer asks, where it asks, and what follows in its lane.
-fn split(turn: Turn) -> (Option<Ask>, Turned)
-    ensures ask { result.0 ≡ ask_in turn }
-    ensures turned { result.1 ≡ turned_of turn }
+/// What follows in a lane whose transaction has ended so, or goes on.
+fn turned(end: Option<End>) -> Turned
+    ensures { result ≡ turned_by end }
 {
-    match turn {
-        Turn::Ask(ask) => (Some(ask), Turned::Goes),
-        Turn::Ended(end) => (None, Turned::Ended(end)),
+    match end {
+        None => Turned::Goes,
+        Some(end) => Turned::Ended(end),
     }
 }
 
@@ -43,7 +44,8 @@ impl<K: Kernels + Drop> Lane<K> {
     {
         Ok(Lane {
             session: Session::open(alloc)?,
-            ask: None,
+            opened: false,
+            ask: nothing(),
             live: true,
         })
     }
@@ -57,7 +59,7 @@ impl<K: Kernels + Drop> Lane<K> {
         events: &mut EventList,
     ) -> Turned
         requires live { self.old.live ≡ true }
-        requires closed { is_some self.old.ask ≡ false }
+        requires closed { self.old.opened ≡ false }
         requires code { fsdi < 16 }
         requires empty { array_vec_len events.old ≡ 0 }
         ensures stands { let talk = transaction K.steps prepared.now.txn_type prepared.now.amount prepared.now.list (K.state kernels) in
@@ -66,15 +68,19 @@ impl<K: Kernels + Drop> Lane<K> {
             told_by events.new.items ≡ events_of talk (started talk) }
         ensures tells { let talk = transaction K.steps prepared.now.txn_type prepared.now.amount prepared.now.list (K.state kernels) in
             Tells result fsdi talk (started talk) }
-        ensures goes { is_some self.new.ask ≡ is_goes result }
+        ensures goes { self.new.opened ≡ is_goes result }
+        ensures cause { ShowsBeginCause result (told_by events.new.items) }
         ensures live { self.new.live ≡ true }
     {
-        let (ask, turned) = split(self.session.start(prepared, kernels, fsdi, events));
-        self.ask = ask;
-        turned
+        let ask = &mut self.ask;
+        let end = self
+            .session
+            .start_into(prepared, kernels, fsdi, events, ask);
+        self.opened = end.is_none();
+        turned(end)
     }
 
-    /// Makes one exchange in the lane with this number. Where the medium fails the lane has ended.
+    /// Makes one exchange in the lane with this number, and tells it in `made`. Where the medium fails the lane has ended.
     ///
     /// Errors: the medium failed.
     pub(crate) fn exchange<M: Medium, P: Probe>(
@@ -82,30 +88,33 @@ impl<K: Kernels + Drop> Lane<K> {
         lane: u8,
         medium: &mut M,
         probe: &mut P,
+        made: &mut Exchange,
         events: &mut EventList,
-    ) -> Result<(Turned, Exchange), RfFailed>
-        requires opened { is_some self.old.ask ≡ true }
+    ) -> Result<Turned, RfFailed>
+        requires opened { self.old.opened ≡ true }
         requires empty { array_vec_len events.old ≡ 0 }
         ensures makes { IfOk result (λ r. Makes K.steps M.steps P.steps (lane_held K.state K.is_open K.is_fresh self.old) (M.state medium.old) (P.state probe.old)
-            (made_of r.1) r.0 (told_by events.new.items) (lane_held K.state K.is_open K.is_fresh self.new) (M.state medium.new) (P.state probe.new)) }
-        ensures goes { IfOk result (λ r. is_some self.new.ask ≡ is_goes r.0) }
-        ensures number { IfOk result (λ r. r.1.lane ≡ lane) }
+            (made_of made.new) r (told_by events.new.items) (lane_held K.state K.is_open K.is_fresh self.new) (M.state medium.new) (P.state probe.new)) }
+        ensures goes { IfOk result (λ r. self.new.opened ≡ is_goes r) }
+        ensures number { made.new.lane ≡ lane }
+        ensures cause_of_end { IfOk result (λ r. ShowsCause K.steps (lane_held K.state K.is_open K.is_fresh self.old) (heard_of made.new.heard) r) }
         ensures fails { OnErr result (Fails M.steps (lane_held K.state K.is_open K.is_fresh self.old) (M.state medium.old)
             (lane_held K.state K.is_open K.is_fresh self.new) (M.state medium.new)) }
         ensures same_probe { OnErr result (P.state probe.new ≡ P.state probe.old) }
         ensures no_event { OnErr result (array_vec_len events.new ≡ 0) }
         ensures cause { HasCause (M.faults medium.old) (M.faults medium.new) (IsErr result) }
     {
-        let Some(ask) = self.ask.take() else {
-            unreachable!()
-        };
-        let Ok(given) = exchange(medium, &ask) else {
+        made.lane = lane;
+        let Ok(given) = exchange(medium, &self.ask) else {
+            self.opened = false;
             self.live = false;
             return Err(RfFailed);
         };
-        let heard = probe.hear(lane, &ask, &given);
-        let (next, turned) = split(self.session.advance(&heard, events));
-        self.ask = next;
-        Ok((turned, Exchange { lane, ask, heard }))
+        made.heard = probe.hear(lane, &self.ask, &given);
+        made.ask = self.ask.copy();
+        let ask = &mut self.ask;
+        let end = self.session.advance_into(&made.heard, events, ask);
+        self.opened = end.is_none();
+        Ok(turned(end))
     }
 }

@@ -5,6 +5,7 @@ ghost use Rattle.ep_base.specs.Streams.Causes.{HasCause};
 ghost use Rattle.ep_rules.specs.EntryPoint.Transaction.{transaction};
 ghost use Rattle.ep_claim.specs.Lanes.Standing.{events_of, started};
 ghost use Rattle.session_phases.specs.Told.{told_by};
+ghost use Rattle.ep_lanes.specs.Causes.{ShowsBeginCause, TellsCause};
 ghost use Rattle.ep_lanes.specs.Lanes.{count_of, has_open, is_live, lane_of, lanes_of, made_of, new_lanes, next_lane, no_lane, next_of, order_after};
 ghost use Rattle.ep_lanes.specs.Saying.{is_goes};
 ghost use Rattle.ep_lanes.specs.Turns.{Fails, Stands, Tells, Turns};
@@ -39,13 +40,14 @@ impl<K: Kernels + Drop> Lanes<K> {
             turns,
             past: 0,
             taken: 0,
-            last: None,
+            told: false,
+            last: Exchange::none(),
         })
     }
 
     /// Begins a transaction in a live lane that has none open, after Pre-Processing, with a reader of this FSDI, below 16.
     /// The events up to its first exchange are put into `events`, which is empty before. It says whether an exchange is
-    /// asked, or how the transaction ended without one. All else stays.
+    /// asked, or how the transaction ended without one, which comes only after an outcome. All else stays.
     pub fn begin(
         &mut self,
         lane: u8,
@@ -65,6 +67,7 @@ impl<K: Kernels + Drop> Lanes<K> {
         ensures tells { let talk = transaction K.steps prepared.now.txn_type prepared.now.amount prepared.now.list (K.state kernels) in
             Tells result fsdi talk (started talk) }
         ensures goes { has_open (lanes_of K.state K.is_open K.is_fresh self.new) lane ≡ is_goes result }
+        ensures cause { ShowsBeginCause result (told_by events.new.items) }
         ensures live { is_live (lanes_of K.state K.is_open K.is_fresh self.new) lane ≡ true }
         ensures others { (k : ℕ) → k ≢ lane →
             lane_of (lanes_of K.state K.is_open K.is_fresh self.new) k ≡ lane_of (lanes_of K.state K.is_open K.is_fresh self.old) k }
@@ -91,12 +94,15 @@ impl<K: Kernels + Drop> Lanes<K> {
     pub fn last(&self) -> Option<&Exchange>
         ensures { option_map (λ e. made_of e.now) result ≡ (lanes_of K.state K.is_open K.is_fresh self.now).last }
     {
-        self.last.as_ref()
+        if self.told { Some(&self.last) } else { None }
     }
 
     /// Makes exactly one exchange, in the lane that `next` names, where a transaction is open. The medium is reset before
     /// it where that is asked, and the reader hears what the probe makes of what the medium gave. The events that it adds
     /// are put into `events`, which is empty before. All other lanes stay.
+    ///
+    /// The cause of an end shows: an outcome among the events before it, 64 rounds of the last Start B without a card, or the
+    /// exchange that `last` tells then, at which the open command's link was spent or broken.
     ///
     /// Errors: the medium failed. The lane has ended then, and the probe is as it was.
     pub fn turn<M: Medium, P: Probe>(
@@ -113,6 +119,8 @@ impl<K: Kernels + Drop> Lanes<K> {
             (lanes_of K.state K.is_open K.is_fresh self.old) (M.state medium.old) (P.state probe.old) turned (told_by events.new.items)
             (lanes_of K.state K.is_open K.is_fresh self.new) (M.state medium.new) (P.state probe.new)) }
         ensures goes { IfOk result (λ turned. has_open (lanes_of K.state K.is_open K.is_fresh self.new) lane ≡ is_goes turned) }
+        ensures cause_of_end { IfOk result (λ turned. TellsCause K.steps (lane_of (lanes_of K.state K.is_open K.is_fresh self.old) lane)
+            (lanes_of K.state K.is_open K.is_fresh self.new).last turned) }
         ensures fails { OnErr result (Fails M.steps (lane_of (lanes_of K.state K.is_open K.is_fresh self.old) lane) (M.state medium.old)
             (lane_of (lanes_of K.state K.is_open K.is_fresh self.new) lane) (M.state medium.new)) }
         ensures untold { OnErr result ((lanes_of K.state K.is_open K.is_fresh self.new).last ≡ None) }
@@ -127,8 +135,8 @@ impl<K: Kernels + Drop> Lanes<K> {
     {
         self.take_turn();
         let held = &mut self.lanes[usize::from(lane) - 1];
-        let (turned, made) = held.exchange(lane, medium, probe, events)?;
-        self.last = Some(made);
+        let turned = held.exchange(lane, medium, probe, &mut self.last, events)?;
+        self.told = true;
         Ok(turned)
     }
 
@@ -152,12 +160,12 @@ impl<K: Kernels + Drop> Lanes<K> {
     fn take_turn(&mut self)
         ensures lanes { (lanes_of K.state K.is_open K.is_fresh self.new).lanes ≡ (lanes_of K.state K.is_open K.is_fresh self.old).lanes }
         ensures order { (lanes_of K.state K.is_open K.is_fresh self.new).order ≡ order_after (lanes_of K.state K.is_open K.is_fresh self.old) }
-        ensures last { self.new.last ≡ None }
+        ensures last { self.new.told ≡ false }
     {
         if let Some(turn) = self.upcoming() {
             self.past = turn.past;
             self.taken = turn.taken;
         }
-        self.last = None;
+        self.told = false;
     }
 }

@@ -88,7 +88,7 @@ fn is_open<K: Kernels>(lanes: &Lanes<K>, lane: u8) -> bool
         return false;
     }
     match lanes.lanes.get(usize::from(lane) - 1) {
-        Some(held) => held.ask.is_some(),
+        Some(held) => held.opened,
         None => false,
     }
 }

@@ -19,7 +19,7 @@ returns-clause-goes g c =
     let there = live_there (map (lane_held g.K.Kernels.state g.K.Kernels.is_open g.K.Kernels.is_fresh) c.args.self.now.lanes.items) c.args.lane c.requires.live in
     ap (λ (l : LaneHeld g.K.Kernels.State). is_some l.transaction)
     (changed (lane_held g.K.Kernels.state g.K.Kernels.is_open g.K.Kernels.is_fresh) c.args.self.now.lanes.items c.from.result c.args.lane c.from.ensures there c.begin.new.self)
-    ∙ is_some-open_by _ c.begin.new.self.ask ∙ c.begin.ensures.goes
+    ∙ is_some-open_by _ c.begin.new.self.opened c.begin.new.self.ask ∙ c.begin.ensures.goes
 
 pub returns-clause-live : goal.returns-clause-live
 returns-clause-live g c =
