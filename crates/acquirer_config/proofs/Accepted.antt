@@ -1,11 +1,10 @@
 -- What is accepted is within its limits.
-use Rattle.std.proofs.Common.{◌≡◌, ℕ, suc, zero, ◌+◌, ◌≤◌, ◌<◌, ◌==◌, ◌⊎◌, inl, inr, List, [], ◌∷◌, length, codes, Bool, true, false, Option, Some, None, Result, Ok, Err, nat_lt, if◌then◌else◌, refl, ap, ◌∙◌, subst, arith}
+use Rattle.std.proofs.Common.{◌≡◌, ℕ, suc, zero, ◌+◌, ◌≤◌, ◌<◌, ◌==◌, inl, inr, List, [], ◌∷◌, length, codes, Bool, true, false, Option, Some, None, Ok, nat_lt, if◌then◌else◌, refl, subst, arith}
 use Rattle.std.proofs.Math.Nat.{eq-or-lt_of_le}
 use Rattle.std.specs.Prelude.{All}
-use Rattle.std.specs.Option.{ForSome}
 use Rattle.std.proofs.lemmas.List.Elements.{All-nil, All-head, All-tail}
 use Rattle.std.proofs.lemmas.Bool.Decides.{nat_tests, leb_tells}
-use Rattle.toml.specs.Data.{Data}
+use Rattle.ep_base.specs.declared.limits.TheConstants.{TYPE_COMBINATIONS}
 use Rattle.ep_rules.specs.EntryPoint.Configuration.{Combination, Config, IsAmount, IsCombination, AreCombinations, IsConfig, count_of}
 use Rattle.doc_table.specs.declared.list.ElementKind.TheVariants.{Table}
 use Rattle.doc_table.specs.Read.{Place, list_of, integer_in, byte_text, table_of, optional, required, defaulted, truth}
@@ -66,20 +65,20 @@ accepted_at place c e =
 pub accepted_combination : Accepts combination IsCombination
 accepted_combination = record { is = λ path d c e. after (table_of combination_keys path d) _ c e (λ place _ is. accepted_at place c is) }
 
-over_16 : (n : ℕ) (rest : Option ℕ) → (if nat_lt 16 n then Some n else rest) ≡ None → (n ≤ 16) × (rest ≡ None)
-over_16 n rest h = by_test (nat_lt 16 n) refl h where
-  by_test : (b : Bool) → nat_lt 16 n ≡ b → (if b then Some n else rest) ≡ None → (n ≤ 16) × (rest ≡ None)
+over_most : (n : ℕ) (rest : Option ℕ) → (if nat_lt TYPE_COMBINATIONS n then Some n else rest) ≡ None → (n ≤ TYPE_COMBINATIONS) × (rest ≡ None)
+over_most n rest h = by_test (nat_lt TYPE_COMBINATIONS n) refl h where
+  by_test : (b : Bool) → nat_lt TYPE_COMBINATIONS n ≡ b → (if b then Some n else rest) ≡ None → (n ≤ TYPE_COMBINATIONS) × (rest ≡ None)
   by_test true is h = cc
   by_test false is h = (grind (arith, nat_tests), h)
 
 -- No type from t on has more than sixteen.
-no_crowd_from : (t types : ℕ) (list : List Combination) → crowd_from t types list ≡ None → (u : ℕ) → t ≤ u → u < t + types → count_of u list ≤ 16
+no_crowd_from : (t types : ℕ) (list : List Combination) → crowd_from t types list ≡ None → (u : ℕ) → t ≤ u → u < t + types → count_of u list ≤ TYPE_COMBINATIONS
 unfolding crowd_from
 no_crowd_from t zero list h u low high = absurd (omega arith)
 no_crowd_from t (suc types) list h u low high =
-    let here = over_16 (count_of t list) (crowd_from (t + 1) types list) h in
+    let here = over_most (count_of t list) (crowd_from (t + 1) types list) h in
     elim (eq-or-lt_of_le low) [
-      | inl same ↦ subst (λ (n : ℕ). count_of n list ≤ 16) same here.0
+      | inl same ↦ subst (λ (n : ℕ). count_of n list ≤ TYPE_COMBINATIONS) same here.0
       | inr above ↦ no_crowd_from (t + 1) types list here.1 u (omega arith) (omega arith)
     ]
 
@@ -91,7 +90,7 @@ none_of t (c ∷ list) all h =
     let other : (c.txn_type == t) ≡ false = grind (arith, nat_tests) in
     rw other (none_of t list (All-tail IsCombination c list all) h)
 
-no_crowd : (list : List Combination) → All IsCombination list → crowd list ≡ None → (t : ℕ) → count_of t list ≤ 16
+no_crowd : (list : List Combination) → All IsCombination list → crowd list ≡ None → (t : ℕ) → count_of t list ≤ TYPE_COMBINATIONS
 unfolding crowd
 no_crowd list all h t =
     elim (leb_tells 256 t) [

@@ -1,7 +1,7 @@
 //! The configuration of a reader.
 ghost use Rattle.std.specs.Prelude.{◌≡◌, ◌+◌, ◌<◌, ◌≤◌, ◌^◌, [], codes, length, IfSome};
 ghost use Rattle.toml.specs.View.{table_view};
-ghost use Rattle.ep_rules.specs.EntryPoint.Configuration.{Config as Settings, IsConfig, AreCombinations, count_of};
+ghost use Rattle.ep_rules.specs.EntryPoint.Configuration.{Config as ConfigData, IsConfig, AreCombinations, count_of};
 ghost use Rattle.doc_table.specs.Read.{GivesIfRoom, defaulted};
 ghost use Rattle.doc_table.specs.Section.{place};
 ghost use Rattle.acquirer_config.specs.Config.{crowd, config_at, combinations};
@@ -22,7 +22,7 @@ pub struct Config {
 }
 
 impl Model for Config {
-    ghost Value = { Settings };
+    ghost Value = { ConfigData };
 
     ghost view = { λ c. record { exponent = c.exponent; list = c.list.items } };
 

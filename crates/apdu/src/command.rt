@@ -7,6 +7,9 @@ use arrayvec::ArrayVec;
 use ep_base::COMMAND;
 use std::marker::Model;
 
+/// The name of the Proximity Payment System Environment (EMV Book B).
+pub const PPSE_NAME: [u8; 14] = *b"2PAY.SYS.DDF01";
+
 /// A command of 4 to 261 bytes, seen as its bytes.
 #[derive(Drop)]
 pub struct Command {

@@ -5,9 +5,9 @@ mod command;
 mod fault;
 mod response;
 
-pub use command::Command;
+pub use command::{Command, PPSE_NAME};
 pub use fault::ApduFault;
-pub use response::Response;
+pub use response::{Response, SUCCESS};
 
 #[cfg(test)]
 mod tests;

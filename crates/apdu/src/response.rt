@@ -7,6 +7,9 @@ use arrayvec::ArrayVec;
 use ep_base::{DATA, RESPONSE};
 use std::marker::Model;
 
+/// The status word of a response that gives what was asked (ISO/IEC 7816-4).
+pub const SUCCESS: u16 = 0x9000;
+
 /// A response of 2 to 258 bytes, data and a status word, seen as its bytes.
 #[derive(Drop)]
 pub struct Response {
@@ -75,7 +78,7 @@ impl Response {
     /// Becomes the response with these 2 to 258 bytes, which takes no memory.
     pub fn set(&mut self, bytes: &[u8])
         requires least { 2 ≤ length bytes.now }
-        requires most { length bytes.now ≤ 258 }
+        requires most { length bytes.now ≤ RESPONSE }
         ensures value { self.new ≡ bytes.now }
     {
         self.bytes.clear();

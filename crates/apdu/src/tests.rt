@@ -1,6 +1,7 @@
 //! Lengths from outside, at both ends of each case.
 
 use crate::{ApduFault, Command, Response};
+use ep_base::{COMMAND, RESPONSE};
 
 fn fault_of_command(bytes: &[u8]) -> Option<ApduFault> {
     Command::of(bytes).err()
@@ -8,7 +9,7 @@ fn fault_of_command(bytes: &[u8]) -> Option<ApduFault> {
 
 #[test]
 fn commands_by_their_lengths(rt: HostRuntime) {
-    let long = [0u8; 262];
+    let long = [0u8; COMMAND + 1];
     let cases: [(&[u8], Option<ApduFault>); 8] = [
         (&[0x00, 0xa4, 0x04, 0x00], None),
         (&[0x00, 0xb2, 0x01, 0x0c, 0x00], None),
@@ -32,10 +33,10 @@ fn commands_by_their_lengths(rt: HostRuntime) {
 
 #[test]
 fn responses_by_their_lengths(rt: HostRuntime) {
-    let long = [0u8; 259];
+    let long = [0u8; RESPONSE + 1];
     let cases: [(&[u8], Option<ApduFault>); 4] = [
         (&[0x90, 0x00], None),
-        (&long[..258], None),
+        (&long[..RESPONSE], None),
         (&[0x90], Some(ApduFault::Short)),
         (&long, Some(ApduFault::TooLong)),
     ];

@@ -16,7 +16,7 @@ use Rattle.block_card.specs.declared.held.Step as N
 use Rattle.block_card.specs.declared.held.CardNext.TheVariants.{Send}
 use Rattle.block_card.specs.Held.{HeldCard, parts_from, left_by, last_shown, IsCard}
 use Rattle.block_card.specs.Shows.{Says, Answers, Shows, Replies, StepAnswers, StepShows}
-use Rattle.block_card.proofs.Cuts.{cut_last, cut_at_last, cut_at_more}
+use Rattle.block_pcb.proofs.Cuts.{cut_last, cut_at_last, cut_at_more}
 
 other_not : (a : Bool) → other a ≡ not a
 other_not true = refl
@@ -72,7 +72,7 @@ beq_other true false e = refl
 beq_other false true e = refl
 beq_other false false e = cc
 
-shows_again : (next : N.Step) (new : HeldCard) (c : Rules.Card) (block : Block) → ((image : Rules.Image) → Rules.card_hears new.fsd image c block ≡ Rules.again c) → Replies next new (Rules.again c) → StepShows next new c block
+shows_again : (next : N.Step) (new : HeldCard) (c : Rules.Card) (block : Block) → ((image : Rules.CommandRules) → Rules.card_hears new.fsd image c block ≡ Rules.again c) → Replies next new (Rules.again c) → StepShows next new c block
 shows_again N.TheVariants.Mute new c block is r = λ image. rw (is image) (r, refl)
 shows_again N.TheVariants.Send new c block is r = λ image. rw (is image) (r, refl)
 shows_again N.TheVariants.Execute new c block is r = absurd r
@@ -98,7 +98,7 @@ chain_next e new number ne quiet lt does c is =
     let parts : parts_from (e.fsd - 3) e.response e.place ≡ p ∷ ps = rw some refl in
     let left : c.left ≡ Rules.Parts (p ∷ ps) = is.left ∙ ap (λ (w : Bool). left_by w (e.fsd - 3) e.response e.place e.wtx e.wtxm) quiet ∙ ap Rules.Parts parts in
     let number' : other c.number ≡ not e.number = ap other is.number ∙ other_not e.number in
-    λ image. rw differ (subst (λ (l : Rules.Left). StepAnswers N.TheVariants.Send new c (Rules.on_ack l c)) (sym left) (subst (λ (b : Bool). StepAnswers N.TheVariants.Send new c (Rules.sends_part b p ps c.log)) (sym number') (does c.log, refl)))
+    λ image. rw differ (subst (λ (l : Rules.Unsent). StepAnswers N.TheVariants.Send new c (Rules.card_on_ack l c)) (sym left) (subst (λ (b : Bool). StepAnswers N.TheVariants.Send new c (Rules.sends_part b p ps c.log)) (sym number') (does c.log, refl)))
 
 -- S(WTX) after the last of its own
 pub wait_over : (e new : HeldCard) (power wtxm : ℕ) → e.waiting ≡ true → e.wtx ≡ 0 → ((log : List (List ℕ)) → Replies N.TheVariants.Send new (Rules.sends_part e.number (cut (e.fsd - 3) e.response).first (cut (e.fsd - 3) e.response).others log)) → (c : Rules.Card) → IsCard e c → StepShows N.TheVariants.Send new c (Wtx power wtxm)
@@ -106,7 +106,7 @@ wait_over e new power wtxm waits none does c is =
     let p : List ℕ = (cut (e.fsd - 3) e.response).first in
     let ps : List (List ℕ) = (cut (e.fsd - 3) e.response).others in
     let left : c.left ≡ Rules.Waits 0 e.wtxm p ps = is.left ∙ ap (λ (w : Bool). left_by w (e.fsd - 3) e.response e.place e.wtx e.wtxm) waits ∙ ap (λ (n : ℕ). Rules.Waits n e.wtxm p ps) none in
-    λ image. subst (λ (l : Rules.Left). StepAnswers N.TheVariants.Send new c (Rules.on_wtx l c)) (sym left) (subst (λ (b : Bool). StepAnswers N.TheVariants.Send new c (Rules.sends_part b p ps c.log)) (sym is.number) (does c.log, refl))
+    λ image. subst (λ (l : Rules.Unsent). StepAnswers N.TheVariants.Send new c (Rules.card_on_wtx l c)) (sym left) (subst (λ (b : Bool). StepAnswers N.TheVariants.Send new c (Rules.sends_part b p ps c.log)) (sym is.number) (does c.log, refl))
 
 -- a response without S(WTX)
 pub answered : (frame : ℕ) (number : Bool) (response held : List ℕ) (wtx wtxm : ℕ) (new : HeldCard) → wtx ≡ 0 → held ≡ response → ((log : List (List ℕ)) → Replies N.TheVariants.Send new (Rules.sends_part number (cut (frame - 3) held).first (cut (frame - 3) held).others log)) → (log : List (List ℕ)) → Replies N.TheVariants.Send new (Rules.answers frame number (record { response = response; wtx = wtx; wtxm = wtxm }) log)

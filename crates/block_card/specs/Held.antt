@@ -42,12 +42,12 @@ parts_from size bytes place =
     if nat_lt place (length bytes) then (cut size (drop place bytes)).first ∷ (cut size (drop place bytes)).others else []
 
 -- What is left to send: the S(WTX) that were announced, or the parts from a place on (this project's own).
-abbrev pub left_by : Bool → ℕ → List ℕ → ℕ → ℕ → ℕ → Rules.Left
+abbrev pub left_by : Bool → ℕ → List ℕ → ℕ → ℕ → ℕ → Rules.Unsent
 left_by true size response place wtx wtxm = Rules.Waits wtx wtxm (cut size response).first (cut size response).others
 left_by false size response place wtx wtxm = Rules.Parts (parts_from size response place)
 
 -- What is left to send.
-abbrev pub left_shown : HeldCard → Rules.Left
+abbrev pub left_shown : HeldCard → Rules.Unsent
 left_shown e = left_by e.waiting (e.fsd - 3) e.response e.place e.wtx e.wtxm
 
 -- A last block by its kind (this project's own).

@@ -5,7 +5,7 @@ use Rattle.ep_base.specs.declared.air.CardKind.{CardKind}
 use Rattle.ep_base.specs.Cards.Apdu.{is_command}
 use Rattle.ep_base.specs.Air.Heard.{wave_of_kind}
 use Rattle.ep_base.specs.Link.Block.{Block}
-use Rattle.ep_base.specs.Link.CardEnd.{Card, Image, Answer, card_hears, executes, answers, is_halted}
+use Rattle.ep_base.specs.Link.CardEnd.{Card, CommandRules, Answer, card_hears, executes, answers, is_halted}
 use Rattle.ep_base.specs.Link.Spelling.{Read, Reads, Refuses, read_block}
 use Rattle.ep_base.specs.Link.Wire.{maybe_frame}
 use Rattle.block_card.specs.declared.held.CardNext.{CardNext}
@@ -36,17 +36,17 @@ abbrev pub Answers : CardNext → HeldCard → List (List ℕ) → Answer → Ty
 Answers next e log a = IsCard e a.card × Says next e.kind a.block × (a.card.log ≡ log)
 
 -- The image takes just the well-formed commands for commands.
-abbrev pub TakesCommands : Image → Type 0
+abbrev pub TakesCommands : CommandRules → Type 0
 TakesCommands image = (bytes : List ℕ) → image.is_command bytes ≡ is_command bytes
 
 -- What a card's end does with a block, whatever its image: it answers, and executes nothing; or it executes this command, to which the answer
 -- is that of the image.
 abbrev pub Shows : CardNext → HeldCard → Card → Block → Type 0
-Shows Mute e c block = (image : Image) → TakesCommands image → Answers Mute e c.log (card_hears e.fsd image c block)
-Shows (Send frame) e c block = (image : Image) → TakesCommands image → Answers (Send frame) e c.log (card_hears e.fsd image c block)
+Shows Mute e c block = (image : CommandRules) → TakesCommands image → Answers Mute e c.log (card_hears e.fsd image c block)
+Shows (Send frame) e c block = (image : CommandRules) → TakesCommands image → Answers (Send frame) e c.log (card_hears e.fsd image c block)
 Shows (Execute command) e c block =
     (is_command command ≡ true)
-    × ((image : Image) → TakesCommands image →
+    × ((image : CommandRules) → TakesCommands image →
     card_hears e.fsd image c block ≡ answers e.fsd e.number (image.answer (c.log ++ command ∷ [])) (c.log ++ command ∷ []))
 
 -- Nothing is said, and nothing changes.
@@ -80,6 +80,6 @@ StepAnswers step e c a = Replies step e a × (a.card.log ≡ c.log)
 
 -- What a step does with a block, whatever the image (this project's own).
 abbrev pub StepShows : S.Step → HeldCard → Card → Block → Type 0
-StepShows S.TheVariants.Mute e c block = (image : Image) → StepAnswers S.TheVariants.Mute e c (card_hears e.fsd image c block)
-StepShows S.TheVariants.Send e c block = (image : Image) → StepAnswers S.TheVariants.Send e c (card_hears e.fsd image c block)
-StepShows S.TheVariants.Execute e c block = (image : Image) → card_hears e.fsd image c block ≡ executes e.fsd image e.number e.taken c.log
+StepShows S.TheVariants.Mute e c block = (image : CommandRules) → StepAnswers S.TheVariants.Mute e c (card_hears e.fsd image c block)
+StepShows S.TheVariants.Send e c block = (image : CommandRules) → StepAnswers S.TheVariants.Send e c (card_hears e.fsd image c block)
+StepShows S.TheVariants.Execute e c block = (image : CommandRules) → card_hears e.fsd image c block ≡ executes e.fsd image e.number e.taken c.log

@@ -12,14 +12,14 @@ use crate::held::{CardEnd, CardNext, Last, Step};
 use apdu::{Command, Response};
 use arrayvec::ArrayVec;
 use block_pcb::decode;
-use ep_base::{CardKind, FrameBuf, Wave};
+use ep_base::{CardKind, FRAME, FrameBuf, Wave};
 
 impl CardEnd {
     /// The end of a card of this kind that was just activated, whose reader has frames of this size: one that
     /// `frame_size` gives, which is 16 to 256 bytes.
     pub fn open(kind: CardKind, fsd: u16) -> CardEnd
         requires least { 16 ≤ fsd }
-        requires most { fsd ≤ 256 }
+        requires most { fsd ≤ FRAME }
         ensures by_rules { IsCard (held_card result) fresh_card }
         ensures card { card_of (held_card result) ≡ fresh_card }
         ensures kind { kind_of result ≡ kind }
@@ -42,7 +42,7 @@ impl CardEnd {
     /// Becomes what `open` gives for a card of its kind.
     pub fn reopen(&mut self, fsd: u16)
         requires least { 16 ≤ fsd }
-        requires most { fsd ≤ 256 }
+        requires most { fsd ≤ FRAME }
         ensures by_rules { IsCard (held_card self.new) fresh_card }
         ensures card { card_of (held_card self.new) ≡ fresh_card }
         ensures kind { kind_of self.new ≡ kind_of self.old }
@@ -175,7 +175,7 @@ impl CardEnd {
     pub fn fsd(&self) -> u16
         ensures value { result ≡ fsd_of self.now }
         ensures least { 16 ≤ result }
-        ensures most { result ≤ 256 }
+        ensures most { result ≤ FRAME }
     {
         self.fsd
     }

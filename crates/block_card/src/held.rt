@@ -1,10 +1,11 @@
 //! What a card's end of a link holds, and what it gives.
 ghost use Rattle.std.specs.Prelude.{◌≤◌};
 ghost use Rattle.arrayvec.specs.ArrayVec.{array_vec_len};
+ghost use Rattle.ep_base.specs.declared.limits.TheConstants.{FRAME};
 
 use apdu::Command;
 use arrayvec::ArrayVec;
-use ep_base::{CardKind, FrameBuf};
+use ep_base::{COMMAND, CardKind, FrameBuf, RESPONSE};
 
 /// What a card does after a frame.
 #[derive(Drop)]
@@ -52,16 +53,16 @@ pub struct CardEnd {
     pub(crate) number: bool,
     pub(crate) last: Last,
     // The bytes of the command that came so far.
-    pub(crate) taken: ArrayVec<u8, 261>,
+    pub(crate) taken: ArrayVec<u8, COMMAND>,
     // The last response, and where its next part begins.
-    pub(crate) response: ArrayVec<u8, 258>,
+    pub(crate) response: ArrayVec<u8, RESPONSE>,
     pub(crate) place: usize,
     // Whether an S(WTX) was sent to which no answer came yet; how many more come, and their WTXM.
     pub(crate) waiting: bool,
     pub(crate) wtx: u8,
     pub(crate) wtxm: u8,
     ghost sized: { 16 ≤ fsd },
-    ghost bounded: { fsd ≤ 256 },
+    ghost bounded: { fsd ≤ FRAME },
     ghost within: { place ≤ array_vec_len response },
     ghost some_time: { 1 ≤ wtxm },
     ghost bounded_time: { wtxm ≤ 59 },

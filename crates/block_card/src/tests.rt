@@ -1,6 +1,7 @@
 //! The card's end, block by block.
 
 use crate::{CardEnd, CardKind, CardNext, Response};
+use ep_base::{INF, MESSAGE};
 use rf_frame::{Wave, open_frame};
 use std::process::Abort;
 use std::test::Fail;
@@ -103,8 +104,8 @@ fn time_is_asked_for_twice(rt: HostRuntime) -> Result<(), Fail> {
 #[test]
 fn too_long_a_command_is_dropped(rt: HostRuntime) {
     let mut end = CardEnd::open(CardKind::A, 256);
-    let part = [0u8; 253];
-    let mut longest = [0u8; 254];
+    let part = [0u8; INF];
+    let mut longest = [0u8; MESSAGE];
     longest[0] = 0x12;
     longest[1..].copy_from_slice(&part);
     talk(

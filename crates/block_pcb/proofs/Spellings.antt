@@ -5,7 +5,7 @@ use Rattle.std.proofs.lemmas.List.Elements.{All-head, All-tail}
 use Rattle.std.proofs.lemmas.Bool.{leb-true}
 use Rattle.std.proofs.lemmas.Bool.Decides.{leb_tells, eqb_tells}
 use Rattle.ep_base.specs.Link.Block.{Block, I, RAck, RNak, Deselect, Wtx}
-use Rattle.ep_base.specs.Link.Spelling.{number_bit, chaining_bit, spelled, is_block, Announced, AnI, AnAck, ANak, ADeselect, AWtx, Nothing, announced, Read, Reads, Refuses, read_bare, read_wtx_byte, read_after, read_block}
+use Rattle.ep_base.specs.Link.Spelling.{number_bit, chaining_bit, spelled, is_block, Announced, AnI, AnAck, ANak, ADeselect, AWtx, Nothing, pcb_kind, Read, Reads, Refuses, read_bare, read_wtx_byte, read_after, read_block}
 use Rattle.block_pcb.specs.Laws.{IsByte}
 
 -- ---- a spelled block is read as itself
@@ -25,7 +25,7 @@ wtx_byte p m h =
     rw (rest, power, range.0, range.1) refl
 
 pub read_spelled : (b : Block) → is_block b ≡ true → read_block (spelled b) ≡ Reads b
-unfolding announced
+unfolding pcb_kind
 read_spelled (I false false inf) h = refl
 read_spelled (I false true inf) h = refl
 read_spelled (I true false inf) h = refl
@@ -51,8 +51,8 @@ IsPcb pcb Nothing = Unit {0}
 choice : (pcb n : ℕ) (a b : Announced) → (pcb ≡ n → IsPcb pcb a) → IsPcb pcb b → IsPcb pcb (if pcb == n then a else b)
 choice pcb n a b this that = ⊎_elim (λ h. rw h.0 (this h.1)) (λ h. rw h.0 that) (eqb_tells pcb n)
 
-announces : (pcb : ℕ) → IsPcb pcb (announced pcb)
-unfolding announced
+announces : (pcb : ℕ) → IsPcb pcb (pcb_kind pcb)
+unfolding pcb_kind
 announces pcb =
     choice pcb 0x02 (AnI false false) _ (λ e. e) (choice pcb 0x03 (AnI true false) _ (λ e. e) (
     choice pcb 0x12 (AnI false true) _ (λ e. e) (choice pcb 0x13 (AnI true true) _ (λ e. e) (
@@ -94,7 +94,7 @@ after pcb Nothing inf e all = tt
 
 spells : (bytes : List ℕ) → All IsByte bytes → Spells (read_block bytes) bytes
 spells [] all = tt
-spells (pcb ∷ inf) all = after pcb (announced pcb) inf (announces pcb) (All-tail IsByte pcb inf all)
+spells (pcb ∷ inf) all = after pcb (pcb_kind pcb) inf (announces pcb) (All-tail IsByte pcb inf all)
 
 pub spelled_read : (bytes : List ℕ) (b : Block) → All IsByte bytes → read_block bytes ≡ Reads b → (spelled b ≡ bytes) × (is_block b ≡ true)
 spelled_read bytes b all e = subst (λ (r : Read). Spells r bytes) e (spells bytes all)

@@ -1,23 +1,23 @@
 //! Blocks read from bytes.
 ghost use Rattle.std.specs.Prelude.{◌≡◌, ◌≤◌, length, IfOk};
-ghost use Rattle.ep_base.specs.Link.Spelling.{announced, is_any as any, is_i as i_block, is_cid as cid, is_nad as nad, pcb_fault as fault_of, read_block, read_bare, read_wtx, read_wtx_byte};
+ghost use Rattle.ep_base.specs.Link.Spelling.{pcb_kind, is_any as any, is_i as i_block, is_cid as cid, is_nad as nad, pcb_fault as fault_of, read_block, read_bare, read_wtx, read_wtx_byte};
 ghost use Rattle.block_pcb.specs.Meaning.{block_of, decoded_of, InRange, IsNumbered};
 
 use crate::Block;
 use ep_base::{BlockFault, MESSAGE};
 
 /// Whether a PCB announces an I-block.
-#[tactic(auto, unfolding(ep_base::specs::Link::Spelling::announced))]
+#[tactic(auto, unfolding(ep_base::specs::Link::Spelling::pcb_kind))]
 fn is_i(pcb: u8) -> bool
-    ensures { result ≡ i_block (announced pcb) }
+    ensures { result ≡ i_block (pcb_kind pcb) }
 {
     matches!(pcb, 0x02 | 0x03 | 0x12 | 0x13)
 }
 
 /// Whether a PCB announces a block of the protocol.
-#[tactic(auto, unfolding(ep_base::specs::Link::Spelling::announced))]
+#[tactic(auto, unfolding(ep_base::specs::Link::Spelling::pcb_kind))]
 fn is_any(pcb: u8) -> bool
-    ensures { result ≡ any (announced pcb) }
+    ensures { result ≡ any (pcb_kind pcb) }
 {
     matches!(
         pcb,
@@ -100,7 +100,7 @@ fn wtx<'b>(inf: &'b [u8]) -> Result<Block<'b>, BlockFault>
 /// Errors: `Empty` without a byte; `Cid`, `Nad` or `BadPcb` for a PCB that is none of the protocol's; `BadInf` for an
 /// R-block or S(DESELECT) with further bytes and for an S(WTX) without exactly one; `BadWtxm` for a WTXM of 0 or above
 /// 59. A block of at most 254 bytes has its values in their ranges, and a longer one its number too.
-#[tactic(auto, unfolding(ep_base::specs::Link::Spelling::announced))]
+#[tactic(auto, unfolding(ep_base::specs::Link::Spelling::pcb_kind))]
 pub fn decode(bytes: &[u8]) -> Result<Block<'_>, BlockFault>
     ensures block { decoded_of result ≡ read_block bytes.now }
     ensures range { length bytes.now ≤ MESSAGE → IfOk result InRange }

@@ -2,13 +2,13 @@
 use Rattle.std.proofs.Common.{◌≡◌, ℕ, ◌-◌, Bool, true, false, List, [], ◌∷◌, ◌++◌, refl, sym, ap, ◌∙◌, subst}
 use Rattle.std.specs.Prelude.{reverse}
 use Rattle.std.proofs.lemmas.List.{reverse-append}
-use Rattle.ep_base.specs.Air.Heard.{Ask as Asked, Heard}
+use Rattle.ep_base.specs.Air.Heard.{Ask as AskData, Heard}
 use Rattle.ep_base.specs.Link.Block.{Block, ReadBlock, other, same}
-use Rattle.ep_base.specs.Link.ReaderEnd.{Reader, Phase, Turn, Asks, Gives, Spends, Breaks, question, asked, begin, reader_hears}
+use Rattle.ep_base.specs.Link.ReaderEnd.{Reader, Phase, ReaderTurn, Asks, Gives, Spends, Breaks, question, asked, begin, reader_hears}
 use Rattle.ep_base.specs.Link.Dialogue.{block_of}
 use Rattle.ep_base.specs.Link.Spelling.{number_bit}
 use Rattle.ep_base.specs.Link.LinkFrames.{LinkSetting, Kept, BreachData, block_ask, heard_block, breach_of, frame_heard, phase_shown}
-use Rattle.ep_base.specs.Link.LinkEvents.{AreKept, LinkEvent, Begins, Hears, Standing, frame_of, exchange_of, kept_after, then_stands, then_link, standing_from, standing_after}
+use Rattle.ep_base.specs.Link.LinkEvents.{AreSince, LinkEvent, Begins, Hears, LinkStanding, frame_of, exchange_of, kept_after, then_stands, then_link, standing_from, standing_after}
 use Rattle.ep_base.specs.Link.Carry.{turn_on}
 use Rattle.block_reader.specs.declared.stages.Stage.{Stage}
 use Rattle.block_reader.specs.declared.stages.Stage.TheVariants as stage
@@ -28,7 +28,7 @@ use Rattle.block_reader.specs.Stands.{Held, is_open, is_resting, Rests, Asking, 
 latest : (ks : List Kept) (k : Kept) → reverse (ks ++ k ∷ []) ≡ k ∷ reverse ks
 latest ks k = reverse-append ks (k ∷ [])
 
-keeps_more : (set : LinkSetting) (n : Bool) (phase : Phase) (hs : List ReadBlock) (h : Heard) (ks news : List Kept) → news ≡ ks ++ record { sent = frame_of set (question n phase hs); heard = h } ∷ [] → AreKept set n phase hs (reverse ks) → AreKept set n phase (heard_block set.kind set.frames.reader h ∷ hs) (reverse news)
+keeps_more : (set : LinkSetting) (n : Bool) (phase : Phase) (hs : List ReadBlock) (h : Heard) (ks news : List Kept) → news ≡ ks ++ record { sent = frame_of set (question n phase hs); heard = h } ∷ [] → AreSince set n phase hs (reverse ks) → AreSince set n phase (heard_block set.kind set.frames.reader h ∷ hs) (reverse news)
 keeps_more set n phase hs h ks news e all = rw (e, latest ks (record { sent = frame_of set (question n phase hs); heard = h })) (refl, refl, all)
 
 same_self : (n : Bool) → same n n ≡ true
@@ -76,7 +76,7 @@ pub step_on : (s : Step) (e : Course) (x y : ReadBlock) (frame : ℕ) (r : Reade
 step_on s e x y frame r is shows = subst (λ (h : ReadBlock). StepShows s e h r (reader_hears frame r h)) is shows
 
 -- without a toggle
-pub asks_again : (old new : Held) (h : Heard) (r : Reader) (t : Turn) (a : Asked) → StepShows step.Again new.course (heard_block old.set.kind old.set.frames.reader h) r t → Asking old r → new.set ≡ old.set → is_open new ≡ true → new.since ≡ old.since ++ exchange_of old.set r h ∷ [] → a ≡ block_ask new.set.kind new.set.fwi (block_due new.course) → Shows (Ask a) new h t
+pub asks_again : (old new : Held) (h : Heard) (r : Reader) (t : ReaderTurn) (a : AskData) → StepShows step.Again new.course (heard_block old.set.kind old.set.frames.reader h) r t → Asking old r → new.set ≡ old.set → is_open new ≡ true → new.since ≡ old.since ++ exchange_of old.set r h ∷ [] → a ≡ block_ask new.set.kind new.set.fwi (block_due new.course) → Shows (Ask a) new h t
 asks_again old new h r (Asks q) a s was set on since is = record {
   says = is ∙ ap (block_ask new.set.kind new.set.fwi) (sym s.sends.block);
   stands = record {
@@ -90,14 +90,14 @@ asks_again old new h r (Gives response q) a s was set on since is = absurd s
 asks_again old new h r (Spends q) a s was set on since is = absurd s
 asks_again old new h r (Breaks q) a s was set on since is = absurd s
 
-pub kept_again : (e : Course) (h : ReadBlock) (r : Reader) (t : Turn) (ks : List Kept) (k : Kept) → StepShows step.Again e h r t → ks ++ k ∷ [] ≡ kept_after ks r t k
+pub kept_again : (e : Course) (h : ReadBlock) (r : Reader) (t : ReaderTurn) (ks : List Kept) (k : Kept) → StepShows step.Again e h r t → ks ++ k ∷ [] ≡ kept_after ks r t k
 kept_again e h r (Asks q) ks k s = rw (s.same, same_self r.number) refl
 kept_again e h r (Gives response q) ks k s = absurd s
 kept_again e h r (Spends q) ks k s = absurd s
 kept_again e h r (Breaks q) ks k s = absurd s
 
 -- after a toggle
-pub asks_next : (new : Held) (h : Heard) (x : ReadBlock) (r : Reader) (t : Turn) (a : Asked) → StepShows step.Toggled new.course x r t → is_open new ≡ true → new.since ≡ [] → a ≡ block_ask new.set.kind new.set.fwi (block_due new.course) → Shows (Ask a) new h t
+pub asks_next : (new : Held) (h : Heard) (x : ReadBlock) (r : Reader) (t : ReaderTurn) (a : AskData) → StepShows step.Toggled new.course x r t → is_open new ≡ true → new.since ≡ [] → a ≡ block_ask new.set.kind new.set.fwi (block_due new.course) → Shows (Ask a) new h t
 asks_next new h x r (Asks q) a s on none is = record {
   says = is ∙ ap (block_ask new.set.kind new.set.fwi) (sym s.sends.block);
   stands = record { opened = on; sends = s.sends; kept = rw (s.fresh, none) tt };
@@ -107,14 +107,14 @@ asks_next new h x r (Gives response q) a s on none is = absurd s
 asks_next new h x r (Spends q) a s on none is = absurd s
 asks_next new h x r (Breaks q) a s on none is = absurd s
 
-pub kept_next : (e : Course) (h : ReadBlock) (r : Reader) (t : Turn) (ks : List Kept) (k : Kept) → StepShows step.Toggled e h r t → [] ≡ kept_after ks r t k
+pub kept_next : (e : Course) (h : ReadBlock) (r : Reader) (t : ReaderTurn) (ks : List Kept) (k : Kept) → StepShows step.Toggled e h r t → [] ≡ kept_after ks r t k
 kept_next e h r (Asks q) ks k s = rw (s.number, same_other r.number) refl
 kept_next e h r (Gives response q) ks k s = absurd s
 kept_next e h r (Spends q) ks k s = absurd s
 kept_next e h r (Breaks q) ks k s = absurd s
 
 -- with the response
-pub gives : (new : Held) (h : Heard) (x : ReadBlock) (r : Reader) (t : Turn) (response : List ℕ) → StepShows step.Done new.course x r t → new.since ≡ [] → response ≡ new.course.got → Shows (Done response) new h t
+pub gives : (new : Held) (h : Heard) (x : ReadBlock) (r : Reader) (t : ReaderTurn) (response : List ℕ) → StepShows step.Done new.course x r t → new.since ≡ [] → response ≡ new.course.got → Shows (Done response) new h t
 gives new h x r (Asks q) response s none is = absurd s
 gives new h x r (Gives given q) response s none is = record {
   says = is ∙ s.got;
@@ -130,14 +130,14 @@ gives new h x r (Gives given q) response s none is = record {
 gives new h x r (Spends q) response s none is = absurd s
 gives new h x r (Breaks q) response s none is = absurd s
 
-pub kept_given : (e : Course) (h : ReadBlock) (r : Reader) (t : Turn) (ks : List Kept) (k : Kept) → StepShows step.Done e h r t → [] ≡ kept_after ks r t k
+pub kept_given : (e : Course) (h : ReadBlock) (r : Reader) (t : ReaderTurn) (ks : List Kept) (k : Kept) → StepShows step.Done e h r t → [] ≡ kept_after ks r t k
 kept_given e h r (Asks q) ks k s = absurd s
 kept_given e h r (Gives response q) ks k s = refl
 kept_given e h r (Spends q) ks k s = absurd s
 kept_given e h r (Breaks q) ks k s = absurd s
 
 -- outside the rules
-pub breaks : (old new : Held) (e : Course) (h : Heard) (r : Reader) (t : Turn) (b : BreachData) → StepShows step.Breach e (heard_block old.set.kind old.set.frames.reader h) r t → Asking old r → new.set ≡ old.set → new.course ≡ record e { stage = stage.Failed } → new.since ≡ old.since ++ exchange_of old.set r h ∷ [] → ((q : Reader) → IsAt e q → b ≡ breach_of q h) → Shows (Failed (Breach b)) new h t
+pub breaks : (old new : Held) (e : Course) (h : Heard) (r : Reader) (t : ReaderTurn) (b : BreachData) → StepShows step.Breach e (heard_block old.set.kind old.set.frames.reader h) r t → Asking old r → new.set ≡ old.set → new.course ≡ record e { stage = stage.Failed } → new.since ≡ old.since ++ exchange_of old.set r h ∷ [] → ((q : Reader) → IsAt e q → b ≡ breach_of q h) → Shows (Failed (Breach b)) new h t
 breaks old new e h r (Asks q) b s was set is since shows = absurd s
 breaks old new e h r (Gives response q) b s was set is since shows = absurd s
 breaks old new e h r (Spends q) b s was set is since shows = absurd s
@@ -147,14 +147,14 @@ breaks old new e h r (Breaks q) b s was set is since shows = record {
   last = rw (set, s.same) (keeps_more old.set r.number r.phase r.since h old.since new.since since was.kept);
 }
 
-pub kept_broken : (e : Course) (h : ReadBlock) (r : Reader) (t : Turn) (ks : List Kept) (k : Kept) → StepShows step.Breach e h r t → ks ++ k ∷ [] ≡ kept_after ks r t k
+pub kept_broken : (e : Course) (h : ReadBlock) (r : Reader) (t : ReaderTurn) (ks : List Kept) (k : Kept) → StepShows step.Breach e h r t → ks ++ k ∷ [] ≡ kept_after ks r t k
 kept_broken e h r (Asks q) ks k s = absurd s
 kept_broken e h r (Gives response q) ks k s = absurd s
 kept_broken e h r (Spends q) ks k s = absurd s
 kept_broken e h r (Breaks q) ks k s = refl
 
 -- three bad
-pub spends : (old new : Held) (e : Course) (h : Heard) (r : Reader) (t : Turn) → StepShows step.Spent e (heard_block old.set.kind old.set.frames.reader h) r t → Asking old r → new.set ≡ old.set → new.course ≡ record e { stage = stage.Failed } → new.since ≡ old.since ++ exchange_of old.set r h ∷ [] → Shows (Failed (Spent 3)) new h t
+pub spends : (old new : Held) (e : Course) (h : Heard) (r : Reader) (t : ReaderTurn) → StepShows step.Spent e (heard_block old.set.kind old.set.frames.reader h) r t → Asking old r → new.set ≡ old.set → new.course ≡ record e { stage = stage.Failed } → new.since ≡ old.since ++ exchange_of old.set r h ∷ [] → Shows (Failed (Spent 3)) new h t
 spends old new e h r (Asks q) s was set is since = absurd s
 spends old new e h r (Gives response q) s was set is since = absurd s
 spends old new e h r (Spends q) s was set is since = record {
@@ -164,7 +164,7 @@ spends old new e h r (Spends q) s was set is since = record {
 }
 spends old new e h r (Breaks q) s was set is since = absurd s
 
-pub kept_spent : (e : Course) (h : ReadBlock) (r : Reader) (t : Turn) (ks : List Kept) (k : Kept) → StepShows step.Spent e h r t → ks ++ k ∷ [] ≡ kept_after ks r t k
+pub kept_spent : (e : Course) (h : ReadBlock) (r : Reader) (t : ReaderTurn) (ks : List Kept) (k : Kept) → StepShows step.Spent e h r t → ks ++ k ∷ [] ≡ kept_after ks r t k
 kept_spent e h r (Asks q) ks k s = absurd s
 kept_spent e h r (Gives response q) ks k s = absurd s
 kept_spent e h r (Spends q) ks k s = refl
@@ -172,7 +172,7 @@ kept_spent e h r (Breaks q) ks k s = absurd s
 
 -- ---- the events of a link
 
-standing_from-append : (set : LinkSetting) (st : Standing) (es : List LinkEvent) (e : LinkEvent) → standing_from set st (es ++ e ∷ []) ≡ then_link set (standing_from set st es) e
+standing_from-append : (set : LinkSetting) (st : LinkStanding) (es : List LinkEvent) (e : LinkEvent) → standing_from set st (es ++ e ∷ []) ≡ then_link set (standing_from set st es) e
 standing_from-append set st [] e = refl
 standing_from-append set st (x ∷ es) e = standing_from-append set (then_link set st x) es e
 
@@ -196,29 +196,29 @@ clash true a b = cc
 clash false a b = cc
 
 -- a command begins
-pub begins : (old new : Held) (command : List ℕ) (a : Asked) → is_open new ≡ true → new.since ≡ old.since → ((r : Reader) → IsAt old.course r → r.since ≡ [] → Sends new.course (begin old.set.frames.card command r)) → a ≡ block_ask old.set.kind old.set.fwi (block_due new.course) → (r : Reader) → Rests old r → Asking new (begin old.set.frames.card command r) × (a ≡ block_ask old.set.kind old.set.fwi (asked (begin old.set.frames.card command r)))
+pub begins : (old new : Held) (command : List ℕ) (a : AskData) → is_open new ≡ true → new.since ≡ old.since → ((r : Reader) → IsAt old.course r → r.since ≡ [] → Sends new.course (begin old.set.frames.card command r)) → a ≡ block_ask old.set.kind old.set.fwi (block_due new.course) → (r : Reader) → Rests old r → Asking new (begin old.set.frames.card command r) × (a ≡ block_ask old.set.kind old.set.fwi (asked (begin old.set.frames.card command r)))
 begins old new command a on alike rules is r s =
     let sends = rules r s.state s.fresh in
     (record { opened = on; sends = sends; kept = rw (s.fresh, alike, s.none_kept) tt }, is ∙ ap (block_ask old.set.kind old.set.fwi) (sym sends.block))
 
-begun_at : (old new : Held) (command : List ℕ) (t : Turn) (ks : List Kept) (a : Asked) → new.since ≡ old.since → is_resting old ≡ true → ((r : Reader) → Rests old r → Asking new (begin old.set.frames.card command r) × (a ≡ block_ask old.set.kind old.set.fwi (asked (begin old.set.frames.card command r)))) → StandsAt old t → old.since ≡ ks → StandsWith new (then_stands old.set t ks (Begins command)) × (a ≡ block_ask old.set.kind old.set.fwi (block_of (then_stands old.set t ks (Begins command)).turn))
+begun_at : (old new : Held) (command : List ℕ) (t : ReaderTurn) (ks : List Kept) (a : AskData) → new.since ≡ old.since → is_resting old ≡ true → ((r : Reader) → Rests old r → Asking new (begin old.set.frames.card command r) × (a ≡ block_ask old.set.kind old.set.fwi (asked (begin old.set.frames.card command r)))) → StandsAt old t → old.since ≡ ks → StandsWith new (then_stands old.set t ks (Begins command)) × (a ≡ block_ask old.set.kind old.set.fwi (block_of (then_stands old.set t ks (Begins command)).turn))
 begun_at old new command (Asks r) ks a alike rest rules s is = absurd (clash (is_resting old) rest (open_rests old.course.stage s.opened))
 begun_at old new command (Gives response r) ks a alike rest rules s is = (record { turn = (rules r s).0; kept = alike ∙ is }, (rules r s).1)
 begun_at old new command (Spends r) ks a alike rest rules s is = absurd (clash (is_resting old) rest (failed_closed old.course.stage s.failed).1)
 begun_at old new command (Breaks r) ks a alike rest rules s is = absurd (clash (is_resting old) rest (failed_closed old.course.stage s.failed).1)
 
-pub begun : (old new : Held) (command : List ℕ) (a : Asked) → new.set ≡ old.set → new.since ≡ old.since → is_resting old ≡ true → ((r : Reader) → Rests old r → Asking new (begin old.set.frames.card command r) × (a ≡ block_ask old.set.kind old.set.fwi (asked (begin old.set.frames.card command r)))) → (es : List LinkEvent) → StandsFor old es → StandsFor new (es ++ Begins command ∷ []) × (a ≡ block_ask old.set.kind old.set.fwi (block_of (standing_after old.set (es ++ Begins command ∷ [])).turn))
+pub begun : (old new : Held) (command : List ℕ) (a : AskData) → new.set ≡ old.set → new.since ≡ old.since → is_resting old ≡ true → ((r : Reader) → Rests old r → Asking new (begin old.set.frames.card command r) × (a ≡ block_ask old.set.kind old.set.fwi (asked (begin old.set.frames.card command r)))) → (es : List LinkEvent) → StandsFor old es → StandsFor new (es ++ Begins command ∷ []) × (a ≡ block_ask old.set.kind old.set.fwi (block_of (standing_after old.set (es ++ Begins command ∷ [])).turn))
 begun old new command a set alike rest rules es stands =
     let st = standing_after old.set es in
     let here = begun_at old new command st.turn st.kept a alike rest rules stands.turn stands.kept in
     let after : standing_after old.set (es ++ Begins command ∷ []) ≡ then_link old.set st (Begins command) = standing_after-append old.set es (Begins command) in
     let now : standing_after new.set (es ++ Begins command ∷ []) ≡ then_link old.set st (Begins command) = ap (λ (l : LinkSetting). standing_after l (es ++ Begins command ∷ [])) set ∙ after in (
       subst (StandsWith new) (sym now) here.0,
-      subst (λ (x : Standing). a ≡ block_ask old.set.kind old.set.fwi (block_of x.turn)) (sym after) here.1,
+      subst (λ (x : LinkStanding). a ≡ block_ask old.set.kind old.set.fwi (block_of x.turn)) (sym after) here.1,
     )
 
 -- an exchange was heard
-heard_at : (old new : Held) (h : Heard) (t : Turn) (ks : List Kept) → is_open old ≡ true → ((r : Reader) → Asking old r → StandsAt new (turn_on old.set r h)) → ((r : Reader) → Asking old r → new.since ≡ kept_after old.since r (turn_on old.set r h) (exchange_of old.set r h)) → StandsAt old t → old.since ≡ ks → StandsWith new (then_stands old.set t ks (Hears h))
+heard_at : (old new : Held) (h : Heard) (t : ReaderTurn) (ks : List Kept) → is_open old ≡ true → ((r : Reader) → Asking old r → StandsAt new (turn_on old.set r h)) → ((r : Reader) → Asking old r → new.since ≡ kept_after old.since r (turn_on old.set r h) (exchange_of old.set r h)) → StandsAt old t → old.since ≡ ks → StandsWith new (then_stands old.set t ks (Hears h))
 heard_at old new h (Asks r) ks on rules keeps s is = record { turn = rules r s; kept = keeps r s ∙ ap (λ (l : List Kept). kept_after l r (turn_on old.set r h) (exchange_of old.set r h)) is }
 heard_at old new h (Gives response r) ks on rules keeps s is = absurd (clash (is_resting old) s.resting (open_rests old.course.stage on))
 heard_at old new h (Spends r) ks on rules keeps s is = absurd (clash (is_open old) on (failed_closed old.course.stage s.failed).0)
@@ -231,7 +231,7 @@ heard_on old new h set on rules keeps es stands =
     subst (StandsWith new) (sym now) (heard_at old new h st.turn st.kept on rules keeps stands.turn stands.kept)
 
 -- and the answer is that of the turn
-said_at : (old : Held) (h : Heard) (result : Next) (t : Turn) (ks : List Kept) → is_open old ≡ true → ((r : Reader) → Asking old r → Says result old.set h (turn_on old.set r h)) → StandsAt old t → Says result old.set h (then_stands old.set t ks (Hears h)).turn
+said_at : (old : Held) (h : Heard) (result : Next) (t : ReaderTurn) (ks : List Kept) → is_open old ≡ true → ((r : Reader) → Asking old r → Says result old.set h (turn_on old.set r h)) → StandsAt old t → Says result old.set h (then_stands old.set t ks (Hears h)).turn
 said_at old h result (Asks r) ks on says s = says r s
 said_at old h result (Gives response r) ks on says s = absurd (clash (is_resting old) s.resting (open_rests old.course.stage on))
 said_at old h result (Spends r) ks on says s = absurd (clash (is_open old) on (failed_closed old.course.stage s.failed).0)
@@ -240,4 +240,4 @@ said_at old h result (Breaks r) ks on says s = absurd (clash (is_open old) on (f
 pub said_on : (old : Held) (h : Heard) (result : Next) → is_open old ≡ true → ((r : Reader) → Asking old r → Says result old.set h (turn_on old.set r h)) → (es : List LinkEvent) → StandsFor old es → Says result old.set h (standing_after old.set (es ++ Hears h ∷ [])).turn
 said_on old h result on says es stands =
     let st = standing_after old.set es in
-    subst (λ (x : Standing). Says result old.set h x.turn) (sym (standing_after-append old.set es (Hears h))) (said_at old h result st.turn st.kept on says stands.turn)
+    subst (λ (x : LinkStanding). Says result old.set h x.turn) (sym (standing_after-append old.set es (Hears h))) (said_at old h result st.turn st.kept on says stands.turn)

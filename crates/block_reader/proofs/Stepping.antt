@@ -8,7 +8,7 @@ use Rattle.std.proofs.lemmas.Bool.Decides.{leb_tells}
 use Rattle.ep_base.specs.Link.Block.{I, RAck, RNak, Deselect, Wtx, ReadBlock, Bad, Junk, Intact, other, same}
 use Rattle.ep_base.specs.Link.Parts.{Cut, cut, more}
 use Rattle.ep_base.specs.Link.ReaderEnd as Rules
-use Rattle.ep_base.specs.Link.ReaderEnd.{Idle, Sending, Receiving, question, asked, Asks, Gives, Spends, Breaks, kept, toggled, on_ack, on_i, takes, reader_hears}
+use Rattle.ep_base.specs.Link.ReaderEnd.{Idle, Sending, Receiving, question, asked, on_ack, on_i, takes, reader_hears}
 use Rattle.block_reader.specs.declared.stages.Stage.TheVariants as stage
 use Rattle.block_reader.specs.declared.stages.Stage.{Stage}
 use Rattle.block_reader.specs.declared.stages.Question.TheVariants as ask
@@ -16,7 +16,7 @@ use Rattle.block_reader.specs.declared.stages.Question.{Question}
 use Rattle.block_reader.specs.declared.stages.Step.TheVariants as step
 use Rattle.block_reader.specs.declared.stages.Step.{Step}
 use Rattle.block_reader.specs.Progress.{Course, phase_by, block_by, Sends, StepShows, NoneGot}
-use Rattle.block_reader.proofs.Cuts.{cut_at_last, cut_at_more}
+use Rattle.block_pcb.proofs.Cuts.{cut_at_last, cut_at_more}
 
 pub same_true : (a b : Bool) → a ≡ b → same a b ≡ true
 same_true true true e = refl

@@ -1,5 +1,6 @@
 -- The bounds of what a reader's end holds (this project's own).
 use Rattle.std.specs.Prelude.{◌≡◌, Bool, true, false, ℕ, ◌+◌, ◌-◌, ◌*◌, ◌<◌, ◌≤◌}
+use Rattle.ep_base.specs.declared.limits.TheConstants.{RESPONSE}
 use Rattle.block_reader.specs.declared.stages.Stage.{Stage}
 use Rattle.block_reader.specs.declared.stages.Stage.TheVariants as stage
 use Rattle.block_reader.specs.declared.stages.Question.{Question}
@@ -78,8 +79,8 @@ is_resting stage.Closed = false
 -- What is ahead of an open command, with so many bytes, of which so many were acknowledged, and so many of the response: each toggle leaves less.
 abbrev pub ahead : Stage → ℕ → ℕ → ℕ → ℕ
 ahead stage.Resting command place got = 0
-ahead stage.Sending command place got = command - place + 259
-ahead stage.Receiving command place got = 259 - got
+ahead stage.Sending command place got = command - place + (RESPONSE + 1)
+ahead stage.Receiving command place got = RESPONSE + 1 - got
 ahead stage.Failed command place got = 0
 ahead stage.Closed command place got = 0
 

@@ -1,7 +1,7 @@
 -- What a hearing leads to where the next ask is written in place, in the words of what it says (this project's own).
 use Rattle.std.specs.Prelude.{ℕ, ◌≤◌, List, length}
 use Rattle.ep_base.specs.declared.blocks.Phase as phases
-use Rattle.ep_base.specs.Air.Heard.{Ask as Asked, Heard}
+use Rattle.ep_base.specs.Air.Heard.{Ask as AskData, Heard}
 use Rattle.ep_base.specs.Link.LinkFrames.{BreachData, frame_heard}
 use Rattle.ep_base.specs.Link.Spelling.{number_bit}
 use Rattle.block_reader.specs.declared.ends.Follows.{Follows}
@@ -16,7 +16,7 @@ abbrev pub breach_in : phases.Phase → Held → Heard → BreachData
 breach_in phase e h = record { frame = frame_heard h; number = number_bit e.course.number; phase = phase; wtx = e.course.wtx }
 
 -- What is said with the ask that was written, by the end after the hearing.
-abbrev pub next_of : Follows → Asked → Held → Heard → Next
+abbrev pub next_of : Follows → AskData → Held → Heard → Next
 next_of follows.Ask a e h = Ask a
 next_of follows.Done a e h = Done e.course.got
 next_of follows.Spent a e h = Failed (Spent 3)

@@ -1,5 +1,5 @@
 pub mod Counts
 pub mod Follows
 pub mod Progress
-pub mod Said
+pub mod ReadBlocks
 pub mod Stands

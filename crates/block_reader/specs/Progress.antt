@@ -129,7 +129,7 @@ pub record Breaks (e : Course) (r q : rules.Reader) : Type 0 where
   pub state : IsAt e q
 
 -- A step is what the reader's table says of this hearing (this project's own).
-abbrev pub StepShows : Step → Course → ReadBlock → rules.Reader → rules.Turn → Type 0
+abbrev pub StepShows : Step → Course → ReadBlock → rules.Reader → rules.ReaderTurn → Type 0
 StepShows step.Again e h r (rules.Asks q) = Goes e h r q
 StepShows step.Toggled e h r (rules.Asks q) = Toggles e r q
 StepShows step.Done e h r (rules.Gives response q) = Ends e response r q

@@ -2,9 +2,9 @@
 use Rattle.std.specs.Prelude.{◌≡◌, ℕ, ◌+◌, ◌-◌, ◌*◌, Bool, true, false, List, [], ◌∷◌, length, reverse}
 use Rattle.ep_base.specs.Air.Heard.{Heard}
 use Rattle.ep_base.specs.Link.Block.{ReadBlock, is_bad, count}
-use Rattle.ep_base.specs.Link.ReaderEnd.{Reader, Idle, Turn, Asks, Gives, Spends, Breaks, asked}
+use Rattle.ep_base.specs.Link.ReaderEnd.{Reader, Idle, ReaderTurn, Asks, Gives, Spends, Breaks, asked}
 use Rattle.ep_base.specs.Link.LinkFrames.{LinkSetting, Kept, block_ask, heard_block, breach_of}
-use Rattle.ep_base.specs.Link.LinkEvents.{AreKept, LinkEvent, Standing, standing_after}
+use Rattle.ep_base.specs.Link.LinkEvents.{AreSince, LinkEvent, LinkStanding, standing_after}
 use Rattle.block_reader.specs.Counts as counts
 use Rattle.block_reader.specs.Progress.{Course, course, IsAt, Sends}
 use Rattle.block_reader.specs.declared.reader_end.ReaderEnd.{ReaderEnd}
@@ -37,7 +37,7 @@ is_resting e = counts.is_resting e.course.stage
 
 -- The exchanges that it keeps are those of these hearings since the toggle.
 abbrev pub KeepsOf : Held → Reader → List ReadBlock → Type 0
-KeepsOf e r hs = AreKept e.set r.number r.phase hs (reverse e.since)
+KeepsOf e r hs = AreSince e.set r.number r.phase hs (reverse e.since)
 
 -- No command is open.
 pub record Rests (e : Held) (r : Reader) : Type 0 where
@@ -64,14 +64,14 @@ pub record Closed (e : Held) : Type 0 where
   pub closed : e.course.stage ≡ stage.Closed
 
 -- It stands at a turn.
-abbrev pub StandsAt : Held → Turn → Type 0
+abbrev pub StandsAt : Held → ReaderTurn → Type 0
 StandsAt e (Asks r) = Asking e r
 StandsAt e (Gives response r) = Rests e r
 StandsAt e (Spends r) = Fails e r
 StandsAt e (Breaks r) = Fails e r
 
 -- It says what a turn leads to, after this hearing.
-abbrev pub Says : Next → LinkSetting → Heard → Turn → Type 0
+abbrev pub Says : Next → LinkSetting → Heard → ReaderTurn → Type 0
 Says (Ask a) set h (Asks r) = a ≡ block_ask set.kind set.fwi (asked r)
 Says (Done response) set h (Gives given r) = response ≡ given
 Says (Failed (Spent bad)) set h (Spends r) = (bad ≡ 3) × (count is_bad r.since ≡ 3)
@@ -79,20 +79,20 @@ Says (Failed (Breach b)) set h (Breaks r) = b ≡ breach_of r h
 Says _ _ _ _ = ⊥
 
 -- After a failure it keeps all exchanges since the toggle, and the one at which the link failed is the last.
-abbrev pub KeepsLast : Held → Heard → Turn → Type 0
+abbrev pub KeepsLast : Held → Heard → ReaderTurn → Type 0
 KeepsLast e h (Asks r) = Unit {0}
 KeepsLast e h (Gives response r) = Unit {0}
 KeepsLast e h (Spends r) = KeepsOf e r r.since
 KeepsLast e h (Breaks r) = KeepsOf e r (heard_block e.set.kind e.set.frames.reader h ∷ r.since)
 
 -- What it says and is after this hearing.
-pub record Shows (result : Next) (e : Held) (h : Heard) (turn : Turn) : Type 0 where
+pub record Shows (result : Next) (e : Held) (h : Heard) (turn : ReaderTurn) : Type 0 where
   pub says : Says result e.set h turn
   pub stands : StandsAt e turn
   pub last : KeepsLast e h turn
 
 -- It stands at a turn, and keeps these exchanges.
-pub record StandsWith (e : Held) (st : Standing) : Type 0 where
+pub record StandsWith (e : Held) (st : LinkStanding) : Type 0 where
   pub turn : StandsAt e st.turn
   pub kept : e.since ≡ st.kept
 

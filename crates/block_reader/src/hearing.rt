@@ -3,7 +3,7 @@ ghost use Rattle.std.specs.Prelude.{◌≡◌};
 ghost use Rattle.ep_base.specs.Air.Heard.{wave_of_kind};
 ghost use Rattle.ep_base.specs.Link.LinkFrames.{heard_block};
 ghost use Rattle.rf_frame.specs.Meaning.{heard_of};
-ghost use Rattle.block_reader.specs.Said.{said_of, SaysInRange};
+ghost use Rattle.block_reader.specs.ReadBlocks.{said_of, SaysInRange};
 
 use block_pcb::{Block, decode};
 use ep_base::{CardKind, Wave};
@@ -11,7 +11,7 @@ use rf_frame::{Heard, open_frame};
 
 /// What a hearing says.
 #[derive(Clone, Copy)]
-pub(crate) enum Said<'b> {
+pub(crate) enum ReadBlock<'b> {
     /// Nothing that is intact.
     Bad,
     /// An intact frame that is no block, or too long.
@@ -31,27 +31,27 @@ pub(crate) fn wave_of(kind: CardKind) -> Wave
 }
 
 /// What a hearing says to a reader that takes frames of this size.
-pub(crate) fn read_hearing(kind: CardKind, frame: u16, heard: &Heard) -> Said<'_>
+pub(crate) fn read_hearing(kind: CardKind, frame: u16, heard: &Heard) -> ReadBlock<'_>
     ensures said { said_of result ≡ heard_block kind frame (heard_of heard.now) }
     ensures range { SaysInRange result }
 {
     match heard {
-        Heard::Silence => Said::Bad,
-        Heard::Noise => Said::Bad,
-        Heard::Overlap => Said::Bad,
+        Heard::Silence => ReadBlock::Bad,
+        Heard::Noise => ReadBlock::Bad,
+        Heard::Overlap => ReadBlock::Bad,
         Heard::Frame { wave, bytes } => {
             if *wave != wave_of(kind) {
-                return Said::Bad;
+                return ReadBlock::Bad;
             }
             let Some(message) = open_frame(*wave, bytes) else {
-                return Said::Bad;
+                return ReadBlock::Bad;
             };
             if bytes.len() > usize::from(frame) {
-                return Said::Junk;
+                return ReadBlock::Junk;
             }
             match decode(message) {
-                Ok(block) => Said::Intact(block),
-                Err(_) => Said::Junk,
+                Ok(block) => ReadBlock::Intact(block),
+                Err(_) => ReadBlock::Junk,
             }
         }
     }

@@ -5,9 +5,9 @@ ghost use Rattle.ep_base.specs.Link.Block as rule;
 ghost use Rattle.ep_base.specs.Link.ReaderEnd as rules;
 ghost use Rattle.block_reader.specs.Counts.{ahead, AheadAfter, Counted, CountsAfter, is_open};
 ghost use Rattle.block_reader.specs.Progress.{course, is_spent, IsWhole, Keeps, Repeats, Sends, StepShows};
-ghost use Rattle.block_reader.specs.Said.{said_of, SaysInRange};
+ghost use Rattle.block_reader.specs.ReadBlocks.{said_of, SaysInRange};
 
-use crate::hearing::Said;
+use crate::hearing::ReadBlock;
 use crate::progress::Progress;
 use crate::stages::{Question, Stage, Step};
 use block_pcb::Block;
@@ -98,7 +98,7 @@ impl Progress {
     }
 
     /// What a hearing leads to.
-    pub(crate) fn hear(&mut self, said: Said<'_>) -> Step
+    pub(crate) fn hear(&mut self, said: ReadBlock<'_>) -> Step
         requires range { SaysInRange said }
         requires open { is_open self.old.stage ≡ true }
         ensures by_rules { (r : rules.Reader) → Sends (course self.old) r →
@@ -111,9 +111,9 @@ impl Progress {
         ensures whole { IsWhole result self.new.got.items }
     {
         match said {
-            Said::Bad => self.hear_bad(),
-            Said::Junk => Step::Breach,
-            Said::Intact(block) => match block {
+            ReadBlock::Bad => self.hear_bad(),
+            ReadBlock::Junk => Step::Breach,
+            ReadBlock::Intact(block) => match block {
                 Block::I {
                     number,
                     chained,

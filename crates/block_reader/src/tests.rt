@@ -5,12 +5,12 @@ ghost use Rattle.block_reader.specs.Stands.{held, is_open, is_resting};
 use crate::{Breach, LinkEnd, Next, Phase, ReaderEnd};
 use apdu::{Command, Response};
 use arrayvec::ArrayVec;
-use ep_base::{CardKind, Wave};
+use ep_base::{CardKind, FRAME, MESSAGE, Wave};
 use rf_frame::{Activated, Ask, Heard, sent_message};
 use std::test::Fail;
 
 fn end_to(fsc: u16, fsdi: u8) -> ReaderEnd
-    requires { (16 ≤ fsc) × (fsc ≤ 256) × (fsdi < 16) }
+    requires { (16 ≤ fsc) × (fsc ≤ FRAME) × (fsdi < 16) }
     ensures { is_resting (held result) ≡ true }
 {
     let card = Activated {
@@ -23,7 +23,7 @@ fn end_to(fsc: u16, fsdi: u8) -> ReaderEnd
 }
 
 fn frame(wave: Wave, message: &[u8]) -> Heard
-    requires { length message.now ≤ 254 }
+    requires { length message.now ≤ MESSAGE }
 {
     Heard::Frame {
         wave,

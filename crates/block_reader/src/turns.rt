@@ -2,7 +2,7 @@
 ghost use Rattle.std.specs.Prelude.{◌≡◌, ◌≤◌, ◌<◌, ◌++◌, ◌&&◌, nat_le, [], ◌∷◌, true, List, length};
 ghost use Rattle.ep_base.specs.Cards.Apdu.{is_command};
 ghost use Rattle.ep_base.specs.Link.Block.{is_bad, Deselect};
-ghost use Rattle.ep_base.specs.Link.Dialogue.{block_of, opened};
+ghost use Rattle.ep_base.specs.Link.Dialogue.{block_of, opened_reader};
 ghost use Rattle.ep_base.specs.Air.FrameSize as sizes;
 ghost use Rattle.ep_base.specs.Link.ReaderEnd.{Reader, asked, begin as begun};
 ghost use Rattle.ep_base.specs.Link.Spelling.{number_bit};
@@ -23,7 +23,7 @@ use crate::{Follows, Kept, LinkEnd, Next, ReaderEnd};
 use apdu::{Command, Response};
 use arrayvec::ArrayVec;
 use block_pcb::Block;
-use ep_base::frame_size;
+use ep_base::{FRAME, frame_size};
 use rf_frame::{Activated, Ask, Heard};
 
 impl ReaderEnd {
@@ -32,13 +32,13 @@ impl ReaderEnd {
     pub fn open(card: &Activated, fsdi: u8) -> ReaderEnd
         requires code { fsdi < 16 }
         requires least { 16 ≤ card.now.fsc }
-        requires most { card.now.fsc ≤ 256 }
+        requires most { card.now.fsc ≤ FRAME }
         requires fwi { card.now.fwi ≤ 14 }
         ensures kind { (held result).set.kind ≡ card.now.kind }
         ensures card { (held result).set.frames.card ≡ card.now.fsc }
         ensures reader { (held result).set.frames.reader ≡ sizes.frame_size fsdi }
         ensures wait { (held result).set.fwi ≡ card.now.fwi }
-        ensures by_rules { Rests (held result) opened }
+        ensures by_rules { Rests (held result) opened_reader }
         ensures stands { StandsFor (held result) [] }
     {
         ReaderEnd {
@@ -64,13 +64,13 @@ impl ReaderEnd {
     pub fn reopen(&mut self, card: &Activated, fsdi: u8)
         requires code { fsdi < 16 }
         requires least { 16 ≤ card.now.fsc }
-        requires most { card.now.fsc ≤ 256 }
+        requires most { card.now.fsc ≤ FRAME }
         requires fwi { card.now.fwi ≤ 14 }
         ensures kind { (held self.new).set.kind ≡ card.now.kind }
         ensures card { (held self.new).set.frames.card ≡ card.now.fsc }
         ensures reader { (held self.new).set.frames.reader ≡ sizes.frame_size fsdi }
         ensures wait { (held self.new).set.fwi ≡ card.now.fwi }
-        ensures by_rules { Rests (held self.new) opened }
+        ensures by_rules { Rests (held self.new) opened_reader }
         ensures stands { StandsFor (held self.new) [] }
     {
         self.kind = card.kind;

@@ -7,13 +7,10 @@ ghost use Rattle.ep_base.specs.Cards.CardAnswer.{IsImage, IsAnswer, new_image, p
 use crate::answers::Answers;
 use crate::apps::{App, CountedApp, counted_apps};
 use crate::log::{CardLog, Record};
-use apdu::{Command, Response};
+use apdu::{Command, PPSE_NAME, Response, SUCCESS};
 use ep_base::NoMemory;
 use std::alloc::Global;
 use std::marker::Model;
-
-// The name of the Proximity Payment System Environment (EMV Book B).
-const PPSE_NAME: [u8; 14] = *b"2PAY.SYS.DDF01";
 
 const FILE_NOT_FOUND: [u8; 2] = [0x6a, 0x82];
 
@@ -167,7 +164,7 @@ impl CardImage {
             }
             Some(place) => {
                 let answered = self.apps[place].select();
-                self.selected = (answered.response.sw() == 0x9000).then_some(place);
+                self.selected = (answered.response.sw() == SUCCESS).then_some(place);
                 answered
             }
         }

@@ -3,13 +3,14 @@ use Rattle.std.proofs.Common.{◌≡◌, ℕ, ◌≤◌, ◌<◌, List, [], leng
 use Rattle.std.specs.Prelude.{All}
 use Rattle.std.proofs.lemmas.List.Elements.{All-nil}
 use Rattle.ep_base.specs.Cards.CardAnswer.{Rule, App, unused, new_image, IsResponse, AreAnswers, IsRule, IsApp, IsImage}
+use Rattle.ep_base.specs.declared.limits.TheConstants.{COMMAND, RESPONSE}
 use Rattle.doc_table.specs.declared.list.ElementKind.TheVariants as elements
 use Rattle.doc_table.specs.Read.{Place, list_of, integer_in, byte_text, table_of, required, defaulted}
 use Rattle.doc_table.proofs.Accepted.{Accepts, after, accepted_integer, accepted_bytes, accepted_required, accepted_defaulted, accepted_list}
 use Rattle.card_table.specs.Cards.{response, extensions, multiplier, rule_keys, rule_at, rule, app_keys, app_at, app, ppse_list, app_list}
 
 accepted_response : Accepts response IsResponse
-accepted_response = record { is = λ path d r e. let h = (accepted_bytes 2 258).is path d r e in record { least = h.0; most = h.1 } }
+accepted_response = record { is = λ path d r e. let h = (accepted_bytes 2 RESPONSE).is path d r e in record { least = h.0; most = h.1 } }
 
 -- A list of 1 to 16 responses.
 record AreSome (list : List (List ℕ)) : Type 0 where
@@ -36,13 +37,13 @@ accepted_multiplier place n e = accepted_defaulted (integer_in 1 59) _ 1 (codes 
 rule_is : (place : Place) (r : Rule) → rule_at place ≡ Ok r → IsRule r
 unfolding rule_at
 rule_is place r e =
-    after (required (byte_text 1 261) (codes "prefix") place) _ r e (λ prefix is_prefix e1.
+    after (required (byte_text 1 COMMAND) (codes "prefix") place) _ r e (λ prefix is_prefix e1.
     after (required (list_of elements.Text 1 16 response) (codes "responses") place) _ r e1 (λ responses is_responses e2.
     after (extensions place) _ r e2 (λ wtx is_wtx e3.
     after (multiplier place) _ r e3 (λ wtxm is_wtxm e4.
     let made : Rule = record { prefix = prefix; responses = unused responses; wtx = wtx; wtxm = wtxm } in
     let same : made ≡ r = cc in
-    let of_prefix = accepted_required _ _ (codes "prefix") place _ (accepted_bytes 1 261) is_prefix in
+    let of_prefix = accepted_required _ _ (codes "prefix") place _ (accepted_bytes 1 COMMAND) is_prefix in
     let of_responses = accepted_required _ _ (codes "responses") place _ accepted_responses is_responses in
     let of_wtxm = accepted_multiplier place wtxm is_wtxm in
     subst IsRule same (record {

@@ -6,7 +6,7 @@ use Rattle.std.specs.Str.{bytes_eq}
 use Rattle.ep_base.specs.declared.air.CardKind.{CardKind}
 use Rattle.ep_base.specs.declared.air.CardKind.TheVariants.{A, B}
 use Rattle.ep_base.specs.Air.Heard.{same_kind}
-use Rattle.ep_base.specs.Cards.Lawful.{kind_of, id_of, IsApart, AreApart}
+use Rattle.ep_base.specs.Cards.Lawful.{kind_of, id_of, IsUnlike, AreApart}
 use Rattle.doc_table.proofs.Accepted.{after}
 use Rattle.card_table.specs.Cards.{Card, is_same, is_new, all_new}
 
@@ -56,9 +56,9 @@ new_none path n c (Some k) u e = cc
 -- Each of these is apart from the names that come.
 abbrev AllApart : List Card → List (CardKind × List ℕ) → Type 0
 AllApart [] ns = Unit {0}
-AllApart (b ∷ bs) ns = IsApart (card_name b) ns × AllApart bs ns
+AllApart (b ∷ bs) ns = IsUnlike (card_name b) ns × AllApart bs ns
 
-last_apart : (bs : List Card) (c : Card) (ns : List (CardKind × List ℕ)) → AllApart (bs ++ c ∷ []) ns → AllApart bs ns × IsApart (card_name c) ns
+last_apart : (bs : List Card) (c : Card) (ns : List (CardKind × List ℕ)) → AllApart (bs ++ c ∷ []) ns → AllApart bs ns × IsUnlike (card_name c) ns
 last_apart [] c ns h = (tt, h.0)
 last_apart (b ∷ bs) c ns h = let rest = last_apart bs c ns h.1 in ((h.0, rest.0), rest.1)
 

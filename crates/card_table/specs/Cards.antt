@@ -15,6 +15,7 @@ use Rattle.ep_base.specs.Cards.TypeB.{BIdle}
 use Rattle.type_a.specs.Plan as TypeA
 use Rattle.type_b.specs.Card as TypeB
 use Rattle.ep_base.specs.Cards.Lawful.{IsFormed, kind_of, id_of}
+use Rattle.ep_base.specs.declared.limits.TheConstants.{COMMAND, RESPONSE}
 use Rattle.doc_table.specs.Fault.{Fault}
 use Rattle.doc_table.specs.Path.{key_path, element_path}
 use Rattle.doc_table.specs.declared.fault.DocKind.TheVariants.{Conflict}
@@ -40,7 +41,7 @@ pub record IsCard (c : Card) : Type 0 where
 
 -- A response: 2 to 258 bytes (this project's profile).
 abbrev pub response : Reader (List ℕ)
-response = byte_text 2 258
+response = byte_text 2 RESPONSE
 
 -- How many S(WTX) come before a response (this project's profile).
 abbrev pub extensions : Place → Result ℕ Fault
@@ -57,7 +58,7 @@ rule_keys = codes "prefix" ∷ codes "responses" ∷ codes "wtx" ∷ codes "wtxm
 -- What a rule's table says (this project's own).
 unfoldable pub rule_at : Place → Result Rule Fault
 rule_at place = do
-  prefix ← required (byte_text 1 261) (codes "prefix") place
+  prefix ← required (byte_text 1 COMMAND) (codes "prefix") place
   responses ← required (list_of elements.Text 1 16 response) (codes "responses") place
   wtx ← extensions place
   wtxm ← multiplier place

@@ -8,6 +8,7 @@ use crate::codes::{extensions, multiplier};
 use apdu::Response;
 use card_image::{App, Rule};
 use doc_table::{ListOf, Path, Read, Section, TableEnd, byte_text};
+use ep_base::{COMMAND, RESPONSE};
 use std::alloc::Global;
 use toml::Value;
 
@@ -34,7 +35,7 @@ impl Read for ResponseText {
     ghost room = { 0 };
 
     fn read(&self, _alloc: Global, path: &Path, value: &Value) -> Result<Response, TableEnd> {
-        let bytes = byte_text::<258>(path, value, 2, 258)?;
+        let bytes = byte_text::<RESPONSE>(path, value, 2, RESPONSE)?;
         match Response::of(bytes.as_slice()) {
             Ok(response) => Ok(response),
             Err(_) => unreachable!(),
@@ -71,7 +72,7 @@ fn rule_at(alloc: Global, section: &Section) -> Result<Rule, TableEnd>
     requires { length section.now.path.now + 17 ≤ 96 }
     ensures { GivesIfRoom (λ r. r) result (rule_at (place section.now)) }
 {
-    let prefix = section.required_bytes::<261>("prefix", 1)?;
+    let prefix = section.required_bytes::<COMMAND>("prefix", 1)?;
     let responses = ListOf::texts(1, 16, ResponseText);
     let responses = section.required(alloc, "responses", &responses)?;
     let wtx = extensions(section)?;

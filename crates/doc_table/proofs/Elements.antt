@@ -1,8 +1,7 @@
 -- Elements read one after the other, as a loop does.
-use Rattle.std.proofs.Common.{◌≡◌, ℕ, suc, ◌+◌, ◌<◌, ◌≤◌, List, [], ◌∷◌, ◌++◌, length, drop, get_or, Result, Ok, Err, refl, sym, ap, ◌∙◌, append_assoc, arith}
+use Rattle.std.proofs.Common.{◌≡◌, ℕ, ◌+◌, ◌<◌, List, [], ◌∷◌, ◌++◌, length, drop, get_or, Result, Ok, Err, refl, sym, ap, ◌∙◌, append_assoc}
 use Rattle.std.proofs.lemmas.List.{append-nil}
 use Rattle.toml.proofs.Views.{items_view-drop}
-use Rattle.toml.specs.Data.{Items, no_items, item}
 use Rattle.toml.specs.View.{view, items_view}
 use Rattle.toml.specs.declared.value.Value.{Value}
 use Rattle.doc_table.specs.declared.fault.TableEnd.{TableEnd}
@@ -10,7 +9,7 @@ use Rattle.doc_table.specs.declared.fault.TableEnd.TheVariants.{NoMemory}
 use Rattle.doc_table.specs.declared.fault.TableEnd.TheVariants as ends
 use Rattle.doc_table.specs.Fault.{Fault}
 use Rattle.doc_table.specs.Path.{element_path}
-use Rattle.doc_table.specs.Read.{◌>>=◌, Reader, FailsSo, GivesIfRoom, each}
+use Rattle.doc_table.specs.Read.{◌>>=◌, Reader, FailsSo, each}
 
 -- what was read before, and what is still read
 abbrev pub with_front : {A : Type 0} → List A → Result (List A) Fault → Result (List A) Fault

@@ -1,10 +1,10 @@
 -- What the tables of a document mean, or the first fault in them.
-use Rattle.std.specs.Prelude.{◌≡◌, codes, ℕ, ◌+◌, ◌&&◌, ℤ, pos, negsuc, List, [], ◌∷◌, length, Bool, true, if◌then◌else◌, nat_le, nat_lt, nat_eq, Option, Some, None, is_some, Result, Ok, Err, unwrap_or}
+use Rattle.std.specs.Prelude.{◌≡◌, ℕ, ◌+◌, ◌&&◌, ℤ, pos, negsuc, List, [], ◌∷◌, length, Bool, true, if◌then◌else◌, nat_le, nat_lt, nat_eq, Option, Some, None, is_some, Result, Ok, Err, unwrap_or}
 use Rattle.std.specs.List.{list_any}
 use Rattle.std.specs.Cmp.Lexicographic.{pointwise}
 use Rattle.hex.specs.Hex.{decode_of}
 use Rattle.hex.specs.declared.error.FromHexError.{FromHexError}
-use Rattle.toml.specs.Data.{Data, table, Items, no_items, item, Members, no_members, member, get_member, as_integer, as_str, as_bool, as_array, as_table}
+use Rattle.toml.specs.Data.{Data, Items, no_items, item, Members, no_members, member, get_member, as_integer, as_str, as_bool, as_array, as_table}
 use Rattle.doc_table.specs.declared.fault.DocKind.{DocKind}
 use Rattle.doc_table.specs.declared.fault.DocKind.TheVariants.{UnknownKey, Missing, WrongKind, BadValue, TooMany}
 use Rattle.doc_table.specs.declared.fault.TableEnd.{TableEnd}

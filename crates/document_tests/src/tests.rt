@@ -1,23 +1,26 @@
 //! A document that is right, and what is read where one part of it has another text. The clauses say that the tables'
 //! definitions are met; these rows say what faults they give, with kind, path and number.
+//!
+//! A table of cases is a text with one thing on each line:
+//!
+//! - `for PART`: the place of the rows below is this part of the document, or the one with this name
+//! - `with TEXT`: the place has this text, in which `*` is the place of the rows below
+//! - `without PART`: the rest of the document hasn't got this part
+//! - `at PATH`: `@` in the faults below is this path
+//! - `TEXT => END`: with this text in the place, this is what is read
+//!
+//! In a part and a text, `\n` is a newline, and `<3:a>` is `aaa`. Lines that are empty or begin with `#` say nothing.
 
 mod application;
 mod card;
-mod card_b;
-mod cards;
 mod combination;
 mod order;
 mod root;
-mod rounds;
-mod rule;
 mod script;
-mod step;
-mod trace;
 mod transaction;
-mod turns;
 mod values;
 
-use scenario::{DocEnd, DocKind, Scenario};
+use scenario::{DocEnd, Scenario};
 use std::alloc::AllocGlobal;
 use std::process::Abort;
 use std::test::Fail;
@@ -69,6 +72,21 @@ prefix = "80a8"
 responses = ["80009000"]
 "#;
 
+/// The table of its card's application.
+const APPLICATION: &str = r#"[[lanes.transactions.cards.apps]]
+name = "a0000000041010"
+select = ["6f009000"]
+[[lanes.transactions.cards.apps.rules]]
+prefix = "80a8"
+responses = ["80009000"]
+"#;
+
+/// The table of that application's rule.
+const RULE: &str = r#"[[lanes.transactions.cards.apps.rules]]
+prefix = "80a8"
+responses = ["80009000"]
+"#;
+
 /// The table of its script.
 const SCRIPT: &str = r#"[[lanes.transactions.scripts]]
 kernel = 3
@@ -76,62 +94,88 @@ steps = [{send = "80ae8000"}]
 outcome = "approved 03"
 "#;
 
-/// A lane with one transaction.
-const LANE: &str = "{transactions = [{type = 0, amount = 0}]}";
-
-/// The document with another text for one part.
-fn changed(rt: &(impl Abort + AllocGlobal), part: &str, text: &str) -> Result<String, Fail> {
-    let document = DOCUMENT.replacen(rt.alloc(), part, text, 1)?;
-    assert!(rt; document.as_str() != DOCUMENT, "{part}");
-    Ok(document)
-}
-
-/// An array of as many elements, all the same.
-fn array(rt: &(impl Abort + AllocGlobal), element: &str, count: usize) -> Result<String, Fail> {
-    let one = format!(in rt.alloc(); "{element},")?;
-    let all = one.repeat(rt.alloc(), count)?;
-    Ok(format!(in rt.alloc(); "[{all}]")?)
-}
-
-/// A document whose first fault has this kind, path and number.
-fn check_refused(rt: &(impl Abort + AllocGlobal), document: &str, wanted: (DocKind, &str, i64)) {
-    let end = Scenario::of_bytes(rt.alloc(), document.as_bytes()).err();
-    match end.expect(rt, "a document that is refused") {
-        DocEnd::NotToml => assert!(rt; false, "no TOML: {document}"),
-        DocEnd::NoMemory => assert!(rt; false, "no memory: {document}"),
-        DocEnd::Fault(fault) => {
-            let found = (fault.kind, fault.path.as_str(), fault.number);
-            assert_eq!(rt; found, wanted, "{document}");
-        }
+/// The part of the document that a table of cases names.
+fn part_of<'a>(name: &'a str) -> &'a str {
+    match name {
+        "document" => DOCUMENT,
+        "combination" => COMBINATION,
+        "card" => CARD,
+        "applications" => APPLICATION,
+        "rules" => RULE,
+        "script" => SCRIPT,
+        part => part,
     }
 }
 
-/// A document without fault.
-fn check_accepted(rt: &(impl Abort + AllocGlobal), document: &str) {
-    let scenario = Scenario::of_bytes(rt.alloc(), document.as_bytes()).ok();
-    assert!(rt; scenario.is_some(), "{document}");
+/// A text as it is meant, with its newlines and what stands in it so many times.
+fn spelled(rt: &(impl Abort + AllocGlobal), text: &str) -> Result<String, Fail> {
+    let mut all = String::new(rt.alloc());
+    for piece in text.split('<') {
+        let Some((times, rest)) = piece.split_once('>') else {
+            all.push_str(piece)?;
+            continue;
+        };
+        let (count, one) = times.split_once(':').expect(rt, text);
+        let count: usize = count.parse().ok().expect(rt, text);
+        all.push_str(one.repeat(rt.alloc(), count)?.as_str())?;
+        all.push_str(rest)?;
+    }
+    Ok(all.replace(rt.alloc(), r"\n", "\n")?)
 }
 
-/// Each text in the part's place gives a fault, whose path is that of the table and the key's.
-fn check_faults(
+/// A text with another one for a part that stands in it.
+fn changed(
     rt: &(impl Abort + AllocGlobal),
-    table: &str,
+    whole: &str,
     part: &str,
-    rows: &[(&str, DocKind, &str, i64)],
-) -> Result<(), Fail> {
-    for (text, kind, key, number) in rows {
-        let document = changed(rt, part, text)?;
-        let path = format!(in rt.alloc(); "{table}{key}")?;
-        check_refused(rt, document.as_str(), (*kind, path.as_str(), *number));
-    }
-    Ok(())
+    text: &str,
+) -> Result<String, Fail> {
+    assert!(rt; whole.contains(part), "{part} in {whole}");
+    Ok(whole.replacen(rt.alloc(), part, text, 1)?)
 }
 
-/// Each text in the part's place is accepted.
-fn check_limits(rt: &(impl Abort + AllocGlobal), part: &str, texts: &[&str]) -> Result<(), Fail> {
-    for text in texts {
-        let document = changed(rt, part, text)?;
-        check_accepted(rt, document.as_str());
+/// What the bytes of a document come to: that they are read, that they are no TOML, or the kind, the path and the number of
+/// their first fault.
+fn end_of(rt: &(impl Abort + AllocGlobal), document: &[u8]) -> Result<String, Fail> {
+    let alloc = rt.alloc();
+    let Some(end) = Scenario::of_bytes(alloc, document).err() else {
+        return Ok("read".to_string(alloc)?);
+    };
+    match end {
+        DocEnd::NotToml => Ok("NotToml".to_string(alloc)?),
+        DocEnd::NoMemory => Err("memory".into()),
+        DocEnd::Fault(fault) => Ok(format!(in alloc;
+            "{:?} {} {}",
+            fault.kind,
+            fault.path.as_str(),
+            fault.number
+        )?),
+    }
+}
+
+/// Reads the document of each row of a table of cases, and compares what it comes to.
+fn check_table(rt: &(impl Abort + AllocGlobal), table: &str) -> Result<(), Fail> {
+    let mut place = "*".to_string(rt.alloc())?;
+    let mut path = String::new(rt.alloc());
+    for line in table.lines() {
+        if let Some(part) = line.strip_prefix("for ") {
+            let part = spelled(rt, part_of(part))?;
+            place = changed(rt, DOCUMENT, part.as_str(), "*")?;
+        } else if let Some(text) = line.strip_prefix("with ") {
+            place = changed(rt, place.as_str(), "*", spelled(rt, text)?.as_str())?;
+        } else if let Some(part) = line.strip_prefix("without ") {
+            place = changed(rt, place.as_str(), part_of(part), "")?;
+        } else if let Some(prefix) = line.strip_prefix("at ") {
+            path = prefix.to_string(rt.alloc())?;
+        } else if let Some((text, end)) = line.split_once("=> ") {
+            let text = spelled(rt, text.trim_end())?;
+            let document = changed(rt, place.as_str(), "*", text.as_str())?;
+            let wanted = end.replace(rt.alloc(), "@", path.as_str())?;
+            let found = end_of(rt, document.as_bytes())?;
+            assert_eq!(rt; found.as_str(), wanted.as_str(), "{line}");
+        } else {
+            assert!(rt; line.is_empty() || line.starts_with('#'), "{line}");
+        }
     }
     Ok(())
 }

@@ -2,17 +2,17 @@
 use Rattle.std.specs.Prelude.{◌≡◌, ℕ, Bool, true, false, List, [], ◌∷◌, ◌++◌, Option, Some, None}
 use Rattle.block_reader.specs.Stands as links
 use Rattle.ep_base.specs.Objects.Arena.{Object}
-use Rattle.ep_base.specs.Air.Heard.{Ask, Heard as Hearing, RoundEnd}
+use Rattle.ep_base.specs.Air.Heard.{Ask, Heard as HeardData, RoundEnd}
 use Rattle.ep_rules.specs.EntryPoint.Kernel.{KernelSteps}
-use Rattle.ep_rules.specs.EntryPoint.PreProcessing.{Ready}
-use Rattle.ep_rules.specs.EntryPoint.Event.{Said}
+use Rattle.ep_rules.specs.EntryPoint.PreProcessing.{PreparedOne}
+use Rattle.ep_rules.specs.EntryPoint.Event.{Event as EventData}
 use Rattle.ep_rules.specs.EntryPoint.Talk.{Talk}
 use Rattle.ep_rules.specs.EntryPoint.TransportRun.{HearEnd}
 use Rattle.ep_claim.specs.Lanes.Standing.{Doing, Standing, Stopped, asked_by, events_of}
 use Rattle.poll_activate.specs.Meaning.{ends_of}
-use Rattle.session_event.specs.Event.{said_of_end}
-use Rattle.session_event.specs.declared.event.End.{End}
-use Rattle.session_event.specs.declared.event.End.TheVariants as ending
+use Rattle.kernel_port.specs.Event.{said_of_end}
+use Rattle.kernel_port.specs.declared.event.End.{End}
+use Rattle.kernel_port.specs.declared.event.End.TheVariants as ending
 use Rattle.session_phases.specs.Causes.{EndDecided, FailedIn, IsDecided, IsNoCard}
 use Rattle.session_phases.specs.Shown.{rounds_of, Fits}
 use Rattle.session_phases.specs.Stands.{link_held, can_go_on, StepStands}
@@ -26,7 +26,7 @@ use Rattle.entry_session.specs.declared.holding.Session.{Session}
 -- What is held of an open transaction: Pre-Processing's list, the kernels' state, whether one is open and its first step is to come, the reader's
 -- FSDI, and what the next exchange is of (this project's own).
 pub record Work (S : Type 0) : Type 0 where
-  pub ones : List Ready
+  pub ones : List PreparedOne
   pub kernels : S
   pub opened : Bool
   pub fresh : Bool
@@ -122,7 +122,7 @@ pub record StandsFor {S : Type 0} (k : KernelSteps S) (v : View S) (talk : Talk)
 pub record EndedBy (end : End) (talk : Talk) (st : Standing) : Type 0 where
   pub ending : HearEnd
   pub stopped : st.doing ≡ Stopped ending
-  pub before : List Said
+  pub before : List EventData
   pub last : events_of talk st ≡ before ++ said_of_end end ∷ []
   pub decided : EndDecided end before
 
@@ -134,25 +134,25 @@ Answers (turns.Ended end) fsdi talk st = EndedBy end talk st
 -- How the cause of an end shows: carried through, an outcome stands before the end; without a card, all 64 rounds of the last Start B have ended
 -- and none found one; at a failed link, the reader's table gives the failure at the last exchange that is kept: the third bad one, or the breach
 -- (this project's profile).
-abbrev pub CauseShows : End → Hearing → Doing → (rounds : List RoundEnd) → (link : Option links.Held) → (events : List Said) → Type 0
+abbrev pub CauseShows : End → HeardData → Doing → (rounds : List RoundEnd) → (link : Option links.Held) → (events : List EventData) → Type 0
 CauseShows ending.Done heard doing rounds link events = IsDecided ending.Done events
 CauseShows ending.Link heard doing rounds link events = FailedIn ending.Link heard doing link
 CauseShows ending.NoCard heard doing rounds link events = IsNoCard rounds
 CauseShows ending.Breach heard doing rounds link events = FailedIn ending.Breach heard doing link
 
 -- The same of a session's answer, where it is an end (this project's own).
-abbrev pub ShowsCause : Turn → Hearing → Doing → (rounds : List RoundEnd) → (link : Option links.Held) → (events : List Said) → Type 0
+abbrev pub ShowsCause : Turn → HeardData → Doing → (rounds : List RoundEnd) → (link : Option links.Held) → (events : List EventData) → Type 0
 ShowsCause (turns.Ask ask) heard doing rounds link events = Unit {0}
 ShowsCause (turns.Ended end) heard doing rounds link events = CauseShows end heard doing rounds link events
 
 -- Before the first exchange a transaction ends only as Entry Point decides, after an outcome (after EMV Contactless Book B).
-abbrev pub BeginCauseShows : End → (events : List Said) → Type 0
+abbrev pub BeginCauseShows : End → (events : List EventData) → Type 0
 BeginCauseShows ending.Done events = IsDecided ending.Done events
 BeginCauseShows ending.Link events = ⊥
 BeginCauseShows ending.NoCard events = ⊥
 BeginCauseShows ending.Breach events = ⊥
 
 -- The same of a session's first answer, where it is an end (this project's own).
-abbrev pub ShowsBeginCause : Turn → (events : List Said) → Type 0
+abbrev pub ShowsBeginCause : Turn → (events : List EventData) → Type 0
 ShowsBeginCause (turns.Ask ask) events = Unit {0}
 ShowsBeginCause (turns.Ended end) events = BeginCauseShows end events

@@ -12,9 +12,8 @@ ghost use Rattle.session_phases.specs.Told.{told_by};
 ghost use Rattle.entry_session.specs.Turns.{view_in, task_after, is_open, is_ask, turn_of, ShowsCause, StandsFor, Answers};
 
 use crate::holding::Task;
-use kernel_port::Kernels;
+use kernel_port::{End, EventList, Kernels};
 use rf_frame::{Ask, Heard};
-use session_event::{End, EventList};
 use session_phases::{Onward, Presentation, hear};
 
 /// Takes what was heard in the exchange that was asked last. What is asked in the next one is written into `ask`, or the

@@ -1,5 +1,5 @@
 //! What a session holds.
-ghost use Rattle.std.specs.Prelude.{◌<◌};
+ghost use Rattle.std.specs.Prelude.{◌≡◌, ◌<◌, None};
 ghost use Rattle.session_phases.specs.Room.{HasRoom};
 
 use pre_processing::Prepared;
@@ -13,6 +13,14 @@ pub(crate) struct Task<K> {
     pub(crate) fsdi: u8,
     pub(crate) phase: Phase,
     ghost code: { fsdi < 16 },
+}
+
+/// Drops what is held of a transaction. This stands apart, since what is written here is as large as a task.
+#[inline(never)]
+pub(crate) fn forget<K: Drop>(task: &mut Option<Task<K>>)
+    ensures { task.new ≡ None }
+{
+    *task = None;
 }
 
 /// What runs transactions with kernels of one type: at once, or an exchange at a time.

@@ -18,7 +18,7 @@ mod whole;
 
 pub use block_reader::Kept;
 pub use holding::Session;
+pub use kernel_port::{End, Event, EventList, Events, EventsFailed};
 pub use ran::Ran;
 pub use rf_frame::{Ask, Heard, RoundEnd};
-pub use session_event::{End, Event, EventList, Events, EventsFailed};
 pub use turn::Turn;

@@ -1,7 +1,7 @@
 //! Sessions.
 ghost use Rattle.std.specs.Prelude.{◌≡◌, ℕ, ◌<◌, ◌≤◌, [], ◌++◌, length, true, false, IfOk};
 ghost use Rattle.arrayvec.specs.ArrayVec.{array_vec_len};
-ghost use Rattle.ep_base.specs.Objects.Arena.{opened};
+ghost use Rattle.ep_base.specs.Objects.Arena.{opened_arena};
 ghost use Rattle.ep_rules.specs.EntryPoint.Transaction.{transaction};
 ghost use Rattle.ep_rules.specs.EntryPoint.Talk.{Talk};
 ghost use Rattle.ep_rules.specs.EntryPoint.TransportRun.{Runs};
@@ -16,17 +16,16 @@ ghost use Rattle.entry_session.specs.Causes.{Caused};
 ghost use Rattle.entry_session.specs.Turns.{view_of, is_open, is_ask, turn_of, ShowsBeginCause, ShowsCause, StandsFor, Answers};
 
 use crate::hearing::hear_task;
-use crate::holding::{Session, Task};
+use crate::holding::{Session, Task, forget};
 use crate::ran::Ran;
 use crate::turn::Turn;
 use crate::whole::run_whole;
 use block_reader::Kept;
 use ep_base::{FrameBuf, NoMemory, Wave};
-use kernel_port::Kernels;
+use kernel_port::{End, EventList, Events, Kernels};
 use link::Transport;
 use pre_processing::Prepared;
 use rf_frame::{Ask, Heard, RoundEnd};
-use session_event::{End, EventList, Events};
 use session_phases::{Onward, Presentation, begin};
 use std::alloc::Global;
 use tlv_arena::Arena;
@@ -51,7 +50,7 @@ impl<K: Kernels + Drop> Session<K> {
     ///
     /// Errors: `NoMemory`.
     pub fn open(alloc: Global) -> Result<Session<K>, NoMemory>
-        ensures empty { IfOk result (λ s. s.presentation.arena.contents ≡ opened 1024 192) }
+        ensures empty { IfOk result (λ s. s.presentation.arena.contents ≡ opened_arena 1024 192) }
         ensures closed { IfOk result (λ s. is_open (view_of K.state K.is_open K.is_fresh s) ≡ false) }
     {
         let arena = Arena::open(alloc, ARENA_BYTES, ARENA_SLOTS)?;
@@ -92,7 +91,7 @@ impl<K: Kernels + Drop> Session<K> {
         ensures none_kept { kept_of (view_of K.state K.is_open K.is_fresh self.new).link ≡ [] }
     {
         self.task = None;
-        self.presentation.link = None;
+        self.presentation.link.was_opened = false;
         self.presentation.rounds.clear();
         run_whole(
             &mut self.presentation.arena,
@@ -172,7 +171,7 @@ impl<K: Kernels + Drop> Session<K> {
                 None
             }
             Onward::Ended(end) => {
-                self.task = None;
+                forget(&mut self.task);
                 Some(end)
             }
         }
@@ -231,7 +230,7 @@ impl<K: Kernels + Drop> Session<K> {
         match hear_task(task, &mut self.presentation, heard, events, ask) {
             None => None,
             Some(end) => {
-                self.task = None;
+                forget(&mut self.task);
                 Some(end)
             }
         }
@@ -251,9 +250,11 @@ impl<K: Kernels + Drop> Session<K> {
         ensures exchanges { result.now ≡ kept_of (view_of K.state K.is_open K.is_fresh self.now).link }
         ensures most { length result.now ≤ 32 }
     {
-        match &self.presentation.link {
-            Some(end) => end.since_toggle(),
-            None => &[],
+        let link = &self.presentation.link;
+        if link.was_opened {
+            link.end.since_toggle()
+        } else {
+            &[]
         }
     }
 }

@@ -1,6 +1,6 @@
 -- The values of the limits. Nothing else fixes them.
 use Rattle.std.proofs.Common.{◌≡◌, refl}
-use Rattle.ep_base.specs.declared.limits.TheConstants.{ARENA_BYTES, ARENA_SLOTS, COMMAND, COMMAND_EXCHANGES, DATA, EXCHANGES, FRAME, FRAME_16, INF, INPUT, LAST_START, LINE_BYTES, MESSAGE, NAMED, PAIRS, PIECE, RESPONSE, ROUND_EXCHANGES, ROUNDS, START_EXCHANGES, TOGGLES, TYPE_COMBINATIONS}
+use Rattle.ep_base.specs.declared.limits.TheConstants.{ANSWER_WAITS, ANSWERS, APPLICATIONS, ARENA_BYTES, ARENA_SLOTS, BETWEEN_TOGGLES, COMBINATIONS, COMMAND, COMMAND_EXCHANGES, DATA, EXCHANGES, FRAME, FRAME_16, INF, INPUT, LANES, LAST_START, LINE_BYTES, MESSAGE, NAMED, PAIRS, PIECE, RESPONSE, ROUND_EXCHANGES, ROUNDS, RULES, SCRIPTS, START_EXCHANGES, STEPS, TOGGLES, TRANSACTIONS, TYPE_COMBINATIONS, WAITS}
 
 pub frame_is : FRAME ≡ 256
 frame_is = refl
@@ -26,8 +26,14 @@ data_is = refl
 pub toggles_is : TOGGLES ≡ 279
 toggles_is = refl
 
+pub waits_is : WAITS ≡ 16
+waits_is = refl
+
 pub exchanges_is : EXCHANGES ≡ 21
 exchanges_is = refl
+
+pub between_toggles_is : BETWEEN_TOGGLES ≡ 32
+between_toggles_is = refl
 
 pub command_exchanges_is : COMMAND_EXCHANGES ≡ 5859
 command_exchanges_is = refl
@@ -44,11 +50,38 @@ start_exchanges_is = refl
 pub named_is : NAMED ≡ 28
 named_is = refl
 
+pub combinations_is : COMBINATIONS ≡ 64
+combinations_is = refl
+
 pub type_combinations_is : TYPE_COMBINATIONS ≡ 16
 type_combinations_is = refl
 
 pub pairs_is : PAIRS ≡ 448
 pairs_is = refl
+
+pub applications_is : APPLICATIONS ≡ 16
+applications_is = refl
+
+pub rules_is : RULES ≡ 32
+rules_is = refl
+
+pub answers_is : ANSWERS ≡ 16
+answers_is = refl
+
+pub answer_waits_is : ANSWER_WAITS ≡ 8
+answer_waits_is = refl
+
+pub scripts_is : SCRIPTS ≡ 4
+scripts_is = refl
+
+pub steps_is : STEPS ≡ 16
+steps_is = refl
+
+pub transactions_is : TRANSACTIONS ≡ 64
+transactions_is = refl
+
+pub lanes_is : LANES ≡ 8
+lanes_is = refl
 
 pub arena_bytes_is : ARENA_BYTES ≡ 1024
 arena_bytes_is = refl

@@ -27,8 +27,14 @@ pub const DATA: usize = RESPONSE - 2;
 /// its response.
 pub const TOGGLES: usize = COMMAND / 13 + 1 + RESPONSE;
 
-/// The most exchanges from one toggle to the next: 16 S(WTX), three bad ones, and two more.
-pub const EXCHANGES: usize = 21;
+/// The most S(WTX) from one toggle to the next.
+pub const WAITS: usize = 16;
+
+/// The most exchanges from one toggle to the next: its S(WTX), three bad ones, and two more.
+pub const EXCHANGES: usize = WAITS + 5;
+
+/// The most exchanges from one toggle to the next that are promised, and that a reader's end keeps.
+pub const BETWEEN_TOGGLES: usize = 32;
 
 /// The most exchanges of a command.
 pub const COMMAND_EXCHANGES: usize = TOGGLES * EXCHANGES;
@@ -45,11 +51,38 @@ pub const START_EXCHANGES: usize = ROUND_EXCHANGES * ROUNDS + 1;
 /// The most directory entries of a response that can be candidates.
 pub const NAMED: usize = 28;
 
+/// The most Combinations of a configuration.
+pub const COMBINATIONS: usize = 64;
+
 /// The most Combinations of a transaction type.
 pub const TYPE_COMBINATIONS: usize = 16;
 
 /// The most pairs of a directory entry and a Combination.
 pub const PAIRS: usize = NAMED * TYPE_COMBINATIONS;
+
+/// The most applications of a card image.
+pub const APPLICATIONS: usize = 16;
+
+/// The most rules of an application.
+pub const RULES: usize = 32;
+
+/// The most responses of a list of a card image.
+pub const ANSWERS: usize = 16;
+
+/// The most S(WTX) before a response of a card image.
+pub const ANSWER_WAITS: usize = 8;
+
+/// The most scripts of a transaction.
+pub const SCRIPTS: usize = 4;
+
+/// The most steps of a script.
+pub const STEPS: usize = 16;
+
+/// The most transactions of a lane.
+pub const TRANSACTIONS: usize = 64;
+
+/// The most lanes.
+pub const LANES: usize = 8;
 
 /// The bytes of a session's arena.
 pub const ARENA_BYTES: usize = 1_024;

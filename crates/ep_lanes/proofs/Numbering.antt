@@ -2,11 +2,11 @@
 use Rattle.std.proofs.Common.{◌≡◌, ◌≢◌, ◌⊎◌, inl, inr, ⊎_elim, ℕ, ◌+◌, ◌-◌, ◌<◌, ◌≤◌, ◌==◌, Bool, true, false, List, [], ◌∷◌, ◌++◌, map, replicate, length, get_or, slice_get, slice_set, unwrap_or, option_map, Option, Result, Ok, Err, Some, None, is_some, refl, sym, ◌∙◌, ap, subst, arith}
 use Rattle.std.specs.Prelude.{if◌then◌else◌, OnErr}
 use Rattle.std.proofs.lemmas.Bool.Decides.{eqb_tells, leb_tells}
-use Rattle.std.proofs.lemmas.List.{map-set, length-map, get_or-set_same, get_or-set_other, replicate-append-replicate}
+use Rattle.std.proofs.lemmas.List.{map-set, length-map, get_or-set_same, get_or-set_other, replicate-append-replicate, get_or-replicate}
 use Rattle.std.proofs.lemmas.Option.{unwrap_or-slice_get, slice_get_past, slice_get-map, slice_get-get_or, get_or_from_slice_get}
 use Rattle.ep_base.specs.Air.Heard.{Ask}
 use Rattle.entry_session.specs.Turns.{View}
-use Rattle.ep_lanes.specs.Lanes.{LaneHeld, no_lane, open_by}
+use Rattle.ep_lanes.specs.Lanes.{LaneHeld, lane_of, new_lane, new_lanes, no_lane, open_by}
 
 module _ {S : Type 0} where
   -- the lane with a number
@@ -114,3 +114,8 @@ on_err (Err e) p = p
 -- what holds of two lanes holds of those that are the same
 pub of_same : {S : Type 0} (P : (old new : LaneHeld S) → Type 0) {a b c d : LaneHeld S} → a ≡ b → c ≡ d → P b d → P a c
 of_same P {a = a} {d = d} e f p = subst (λ n. P a n) (sym f) (subst (λ o. P o d) (sym e) p)
+
+-- A lane that is new.
+pub new_at : {S : Type 0} (count : ℕ) (turns : List ℕ) (n : ℕ) → 1 ≤ n → n ≤ count → lane_of {S = S} (new_lanes count turns) n ≡ new_lane
+new_at count turns n least most =
+    placed (replicate count new_lane) n least ∙ get_or-replicate count (n - 1) new_lane no_lane (omega (arith, least, most))

@@ -94,3 +94,7 @@ module _ (f g : ℕ → Bool) (same : (n : ℕ) → f n ≡ g n) where
 
   pub same_turn : (count : ℕ) (o : Order) → next_turn f count o ≡ next_turn g count o
   same_turn count o = ap (λ l. turn_by f count o l) (listed_same o.turns) ∙ turn_same count o (listed g o.turns)
+
+-- The lane whose turn it is, is live.
+pub next_live : {S : Type 0} (h : Held S) (lane : ℕ) → next_lane h ≡ Some lane → is_live h lane ≡ true
+next_live h lane e = tells_live h (Some lane) (sym e)

@@ -6,12 +6,12 @@ use Rattle.ep_base.specs.Link.Carry.{turn_on}
 use Rattle.ep_base.specs.Link.LinkFrames.{heard_block}
 use Rattle.ep_base.specs.Link.ReaderEnd.{Reader, Spends, Breaks}
 use Rattle.ep_base.specs.Poll.Radio.{OpenLink}
-use Rattle.ep_rules.specs.EntryPoint.Event.{Said}
+use Rattle.ep_rules.specs.EntryPoint.Event.{Event as EventData}
 use Rattle.ep_rules.specs.EntryPoint.Kernel.{KernelSteps}
 use Rattle.ep_rules.specs.EntryPoint.Talk.{Talk}
 use Rattle.ep_claim.specs.Lanes.Standing.{Doing, Carries, Standing, after_hearing, events_of}
-use Rattle.session_event.specs.declared.event.End.{End}
-use Rattle.session_event.specs.declared.event.End.TheVariants as ending
+use Rattle.kernel_port.specs.declared.event.End.{End}
+use Rattle.kernel_port.specs.declared.event.End.TheVariants as ending
 use Rattle.session_phases.specs.Causes.{IsDecided, IsNoCard}
 use Rattle.session_phases.specs.Shown.{rounds_of}
 use Rattle.entry_session.specs.Turns.{BeginCauseShows}
@@ -40,14 +40,14 @@ pub record BreaksLink (heard : Heard) (doing : Doing) : Type 0 where
 -- How the cause of an end shows, from what was done and heard, and from the rounds and the events after it: carried through, an outcome stands before
 -- the end; without a card, all 64 rounds of the last Start B have ended and none found one; at a failed link, its reader's table gives the failure at
 -- this hearing (this project's profile).
-abbrev pub CauseShows : End → Heard → Doing → (rounds : List RoundEnd) → (events : List Said) → Type 0
+abbrev pub CauseShows : End → Heard → Doing → (rounds : List RoundEnd) → (events : List EventData) → Type 0
 CauseShows ending.Done heard doing rounds events = IsDecided ending.Done events
 CauseShows ending.Link heard doing rounds events = SpendsLink heard doing
 CauseShows ending.NoCard heard doing rounds events = IsNoCard rounds
 CauseShows ending.Breach heard doing rounds events = BreaksLink heard doing
 
 -- The same of what follows a turn, where it is an end (this project's own).
-abbrev pub CauseAfter : Turned → Heard → Doing → (rounds : List RoundEnd) → (events : List Said) → Type 0
+abbrev pub CauseAfter : Turned → Heard → Doing → (rounds : List RoundEnd) → (events : List EventData) → Type 0
 CauseAfter Goes heard doing rounds events = Unit {0}
 CauseAfter (Ended end) heard doing rounds events = CauseShows end heard doing rounds events
 
@@ -62,6 +62,6 @@ TellsCause k before None turned = ⊥
 TellsCause k before (Some made) turned = ShowsCause k before made.heard turned
 
 -- Before the first exchange a transaction ends only as Entry Point decides, after an outcome (after EMV Contactless Book B).
-abbrev pub ShowsBeginCause : Turned → (events : List Said) → Type 0
+abbrev pub ShowsBeginCause : Turned → (events : List EventData) → Type 0
 ShowsBeginCause Goes events = Unit {0}
 ShowsBeginCause (Ended end) events = BeginCauseShows end events

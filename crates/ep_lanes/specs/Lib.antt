@@ -2,5 +2,6 @@ pub mod Causes
 pub mod Lanes
 pub mod Probing
 pub mod Saying
+pub mod Scripted
 pub mod Turns
 pub mod Upcoming

@@ -1,6 +1,6 @@
 -- What a session's answer says to its lane (this project's own).
 use Rattle.std.specs.Prelude.{Bool, true, false, Option, Some, None}
-use Rattle.session_event.specs.declared.event.End.{End}
+use Rattle.kernel_port.specs.declared.event.End.{End}
 use Rattle.ep_lanes.specs.declared.exchange.Turned.{Turned}
 use Rattle.ep_lanes.specs.declared.exchange.Turned.TheVariants.{Goes, Ended}
 

@@ -4,7 +4,7 @@ use Rattle.entry_session.specs.Turns.{StandsFor, IsOver, EndedBy}
 use Rattle.ep_base.specs.Air.Heard.{Heard}
 use Rattle.ep_rules.specs.EntryPoint.Kernel.{KernelSteps}
 use Rattle.ep_base.specs.Air.Medium.{MediumSteps, Exchanges}
-use Rattle.ep_rules.specs.EntryPoint.Event.{Said}
+use Rattle.ep_rules.specs.EntryPoint.Event.{Event as EventData}
 use Rattle.ep_rules.specs.EntryPoint.Talk.{Talk}
 use Rattle.ep_claim.specs.Lanes.Standing.{Standing, asked_by, after_hearing, events_of}
 use Rattle.ep_lanes.specs.Lanes.{OpenTransaction, LaneHeld, Made, Held, no_lane, lane_of}
@@ -34,7 +34,7 @@ Tells (Ended end) fsdi talk st = EndedBy end talk st
 -- One exchange of a lane: the medium makes what the lane asks, the probe takes one step from what the medium gave, and what follows is what follows
 -- from what the reader heard, in every standing that the lane stood for (this project's own).
 pub record Makes {K M P : Type 0} (kernel : KernelSteps K) (medium : MediumSteps M) (probe : ProbeAnswers P) (before : LaneHeld K) (s : M) (p : P)
-    (made : Made) (turned : Turned) (said : List Said) (after : LaneHeld K) (t : M) (q : P) : Type 0 where
+    (made : Made) (turned : Turned) (said : List EventData) (after : LaneHeld K) (t : M) (q : P) : Type 0 where
   pub transaction : OpenTransaction K
   pub was : before.transaction ≡ Some transaction
   pub asked : made.asked ≡ transaction.asks
@@ -56,7 +56,7 @@ pub record Fails {K M : Type 0} (medium : MediumSteps M) (before : LaneHeld K) (
 
 -- One turn of this lane: the exchange is told as the last one, and the lane comes to what follows from it (this project's own).
 pub record Turns {K M P : Type 0} (kernel : KernelSteps K) (medium : MediumSteps M) (probe : ProbeAnswers P) (lane : ℕ)
-    (before : Held K) (s : M) (p : P) (turned : Turned) (said : List Said) (after : Held K) (t : M) (q : P) : Type 0 where
+    (before : Held K) (s : M) (p : P) (turned : Turned) (said : List EventData) (after : Held K) (t : M) (q : P) : Type 0 where
   pub made : Made
   pub last : after.last ≡ Some made
   pub number : made.lane ≡ lane

@@ -3,7 +3,7 @@ ghost use Rattle.std.specs.Prelude.{◌≡◌, ◌<◌, ◌++◌, ℕ, true, fal
 ghost use Rattle.arrayvec.specs.ArrayVec.{array_vec_len};
 ghost use Rattle.ep_base.specs.Streams.Causes.{HasCause};
 ghost use Rattle.ep_rules.specs.EntryPoint.Transaction.{transaction};
-ghost use Rattle.ep_base.specs.Air.Heard.{Ask as Asked};
+ghost use Rattle.ep_base.specs.Air.Heard.{Ask as AskData};
 ghost use Rattle.ep_rules.specs.EntryPoint.Talk.{Talk};
 ghost use Rattle.ep_claim.specs.Lanes.Standing.{Standing, events_of, started};
 ghost use Rattle.entry_session.specs.Turns.{is_ask};
@@ -19,10 +19,9 @@ use crate::holding::Lane;
 use crate::probe::Probe;
 use entry_session::{End, Session};
 use ep_base::NoMemory;
-use kernel_port::Kernels;
+use kernel_port::{EventList, Kernels};
 use pre_processing::Prepared;
 use rf_frame::{Medium, RfFailed, exchange};
-use session_event::EventList;
 use std::alloc::Global;
 
 /// What follows in a lane whose transaction has ended so, or goes on.

@@ -14,10 +14,9 @@ use crate::exchange::{Exchange, Turned};
 use crate::holding::{Lane, Lanes};
 use crate::probe::Probe;
 use ep_base::NoMemory;
-use kernel_port::Kernels;
+use kernel_port::{EventList, Kernels};
 use pre_processing::Prepared;
 use rf_frame::{Medium, RfFailed};
-use session_event::EventList;
 use std::alloc::Global;
 
 impl<K: Kernels + Drop> Lanes<K> {

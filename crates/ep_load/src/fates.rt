@@ -1,6 +1,6 @@
 //! What becomes of the frames of a load.
 ghost use Rattle.std.specs.Prelude.{◌≡◌, All, IfOk};
-ghost use Rattle.rf_field.specs.Meaning.{IsRun, passages};
+ghost use Rattle.rf_field.specs.Meaning.{IsRun, exchange_fates};
 ghost use Rattle.ep_load.specs.Fates.{fates_drawn};
 
 use crate::draws::Draws;
@@ -25,7 +25,7 @@ const FRAME_LOST: FateRun = FateRun::One(Fate {
 
 // What becomes of the frames of a transaction.
 pub(crate) fn fates_drawn(alloc: Global, draws: &Draws) -> Result<Vec<FateRun>, NoMemory>
-    ensures fates { IfOk result (λ v. passages v.items ≡ fates_drawn draws.now) }
+    ensures fates { IfOk result (λ v. exchange_fates v.items ≡ fates_drawn draws.now) }
     ensures runs { IfOk result (λ v. All IsRun v.items) }
 {
     let clean = FateRun::Clean(7 + u32::from(draws.clean));

@@ -1,7 +1,7 @@
 //! The transactions of a load, on their lanes.
 ghost use Rattle.std.specs.Prelude.{◌≡◌, ◌≤◌, ◌<◌, ◌∷◌, ◌++◌, ◌%◌, ◌-◌, [], length, map, replicate, min, IfOk};
 ghost use Rattle.scenario.specs.Accepted.{IsAccepted};
-ghost use Rattle.scenario.specs.Scene.{scene_of};
+ghost use Rattle.scenario.specs.Scenario.{scenario_of};
 ghost use Rattle.ep_load.specs.Load.{transaction_drawn, lane_of, lanes_with, filled, generated};
 
 use crate::cards::card_drawn;
@@ -19,7 +19,7 @@ use std::alloc::Global;
 /// Errors: `NoMemory`.
 pub fn generate(alloc: Global, seed: u32, count: u16) -> Result<Scenario, NoMemory>
     requires { (1 ≤ count) × (count ≤ 400) }
-    ensures scene { IfOk result (λ s. s ≡ scene_of (generated seed count)) }
+    ensures scene { IfOk result (λ s. s ≡ scenario_of (generated seed count)) }
     ensures accepted { IsAccepted (generated seed count) }
 {
     Scenario::open(alloc, plan(alloc, seed, count)?)

@@ -2,10 +2,8 @@
 ghost use Rattle.std.specs.Prelude.{◌≡◌, ◌+◌, ◌≤◌, ◌∷◌, ◌++◌, length};
 ghost use Rattle.ep_load.specs.Responses.{ppse_response, select_response, kernel_response, succeeded};
 
-use apdu::Response;
+use apdu::{PPSE_NAME, Response, SUCCESS};
 use ep_base::Buf;
-
-const PPSE_NAME: [u8; 14] = *b"2PAY.SYS.DDF01";
 
 // An object whose length is one byte.
 fn object(tag: &[u8], value: &[u8]) -> Buf<64>
@@ -35,7 +33,7 @@ fn response_with(template: &[u8]) -> Response
     requires { length template.now + 2 ≤ 64 }
     ensures { result ≡ template.now ++ succeeded }
 {
-    let bytes = joined(template, &[0x90, 0x00]);
+    let bytes = joined(template, &SUCCESS.to_be_bytes());
     Response::of(bytes.as_slice()).unwrap()
 }
 

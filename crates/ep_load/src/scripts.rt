@@ -6,7 +6,7 @@ ghost use Rattle.ep_load.specs.Scripts.{approved, verdict_drawn, step, script_of
 use crate::draws::Draws;
 use crate::memory::list_of;
 use crate::terms::chosen;
-use apdu::Command;
+use apdu::{Command, SUCCESS};
 use ep_base::{Message, NoMemory, OutcomeKind};
 use kernel_port::{Outcome, Script, Step};
 use std::alloc::Global;
@@ -58,7 +58,7 @@ fn step() -> Step
 {
     Step {
         send: Command::of(&[0x80, 0xa8, 0x00, 0x00, 0x02, 0x83, 0x00, 0x00]).unwrap(),
-        want: 0x9000,
+        want: SUCCESS,
         other: END,
     }
 }

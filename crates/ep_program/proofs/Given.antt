@@ -1,15 +1,15 @@
 -- What was taken of the input: an answer to a document, or to a load, is none to an input that gave too much.
-use Rattle.std.proofs.Common.{◌≡◌, ℕ, ◌+◌, ◌≤◌, ◌<◌, Bool, List, [], length, arith}
+use Rattle.std.proofs.Common.{ℕ, Bool, List, [], arith}
 use Rattle.std.specs.declared.option.Option.{Option}
 use Rattle.ep_base.specs.Streams.Io.{Takes}
-use Rattle.ep_base.specs.declared.limits.TheConstants.{INPUT, PIECE}
+use Rattle.ep_base.specs.declared.limits.TheConstants.{INPUT}
 use Rattle.ep_base.proofs.Known.{consumes_none}
 use Rattle.ep_lanes.specs.Probing.{ProbeAnswers}
-use Rattle.scenario.specs.Scene.{Scene}
+use Rattle.scenario.specs.Scenario.{Scenario}
 use Rattle.ep_program.specs.Input.{IsTooLong}
 use Rattle.ep_program.specs.Load.{Loads}
 use Rattle.ep_program.specs.Replay.{Plays}
-use Rattle.ep_program.specs.Serve.{Outside, Runs}
+use Rattle.ep_program.specs.Serve.{Surroundings, Runs}
 use Rattle.ep_program.specs.declared.status.Status.{Status}
 use Rattle.ep_program.specs.declared.status.Status.TheVariants.{Done, ReadFault, WriteFault, NoMemory, Usage, TooLong, NotToml, BadDocument, Mismatch}
 
@@ -33,7 +33,7 @@ none_taken input = record {
   most = omega arith;
 }
 
-pub run_not_long : {P : Type 0} (answers : ProbeAnswers P) (traced : Bool) (s : Scene) (before after : Outside P) (status : Status)
+pub run_not_long : {P : Type 0} (answers : ProbeAnswers P) (traced : Bool) (s : Scenario) (before after : Surroundings P) (status : Status)
     → Runs answers traced s before after status → IsTooLong status → ⊥
 run_not_long answers traced s before after Done r h = absurd h
 run_not_long answers traced s before after ReadFault r h = absurd h
@@ -45,7 +45,7 @@ run_not_long answers traced s before after NotToml r h = absurd h
 run_not_long answers traced s before after (BadDocument f) r h = absurd h
 run_not_long answers traced s before after (Mismatch m) r h = absurd h
 
-pub play_not_long : (s : Scene) (before after : Option (List ℕ)) (status : Status) → Plays s before after status → IsTooLong status → ⊥
+pub play_not_long : (s : Scenario) (before after : Option (List ℕ)) (status : Status) → Plays s before after status → IsTooLong status → ⊥
 play_not_long s before after Done r h = absurd h
 play_not_long s before after ReadFault r h = absurd h
 play_not_long s before after WriteFault r h = absurd h

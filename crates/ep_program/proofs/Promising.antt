@@ -12,7 +12,7 @@ use Rattle.law_run.proofs.Bounding.{few_commands_lem}
 use Rattle.law_run.proofs.Scripting.{scripts_fall_lem}
 use Rattle.law_run.proofs.Legal.{scripted_lem}
 use Rattle.ep_claim.specs.Lanes.LaneText.{Job}
-use Rattle.ep_claim.specs.Lanes.WholeRun.{ProbeSteps, open_probe, Run, hears, asks, turn_of, takes_turn, run_step, opened_run, run_after}
+use Rattle.ep_claim.specs.Lanes.WholeRun.{ProbeSteps, open_probe, Run, hears, makes_exchange, turn_of, takes_turn, run_step, opened_run, run_after}
 use Rattle.ep_claim.specs.Lanes.Telling.{jobs_of}
 use Rattle.ep_claim.specs.Lanes.Ending.{HasEnded}
 use Rattle.ep_claim.specs.Promise.Transaction.{cards_in, IsReady}
@@ -23,8 +23,9 @@ use Rattle.law_turns.proofs.Keeping.{told_keep_law}
 use Rattle.law_turns.proofs.Stepping.{by_step}
 use Rattle.law_turns.proofs.Telling.{runs_tell_law}
 use Rattle.law_turns.proofs.Writing.{pieces_are_text_law}
-use Rattle.scenario.specs.Scene.{Work}
-use Rattle.lane_report.specs.Works.{preparation, job_of}
+use Rattle.scenario.specs.Jobs.{job_of}
+use Rattle.scenario.specs.Scenario.{Work}
+use Rattle.lane_jobs.specs.Works.{preparation}
 use Rattle.ep_program.specs.Headline.{IsFresh}
 use Rattle.ep_claim.specs.Promise.Run.{GivesOn, HasPromise}
 
@@ -41,12 +42,12 @@ module _ {P : Type 0} (steps : ProbeSteps P) (gives : GivesOn steps) (traced : B
       (λ e. refl)
       (λ n o e d. ap (λ l. turn_of traced open_probe fsdi n o l (opened run)) (sym d))
       (λ n o g e d x.
-      ap (λ a. asks traced open_probe fsdi n o g a (opened run)) (sym x)
+      ap (λ a. makes_exchange traced open_probe fsdi n o g a (opened run)) (sym x)
       ∙ ap (λ l. turn_of traced open_probe fsdi n o l (opened run)) (sym d))
       (λ n o g ask e d x.
       let answer = field_answers ask g.lane.field in
       ap (λ heard. opened (hears traced fsdi n o g ask answer.1 heard run)) (gives run.probe n ask (or_silence answer.0))
-      ∙ (ap (λ a. asks traced open_probe fsdi n o g a (opened run)) (sym x)
+      ∙ (ap (λ a. makes_exchange traced open_probe fsdi n o g a (opened run)) (sym x)
       ∙ ap (λ l. turn_of traced open_probe fsdi n o l (opened run)) (sym d)))
 
   pub opened_after : (n : ℕ) (run : Run P)

@@ -1,5 +1,5 @@
 -- The transactions of an accepted document may begin, and a run of them that was written is served.
-use Rattle.std.proofs.Common.{◌≡◌, ℕ, ◌+◌, ◌<◌, ◌≤◌, ◌==◌, ◌*◌, Bool, List, [], ◌∷◌, length, map, filter, refl, ap, ◌∙◌, sym, subst, arith, Some}
+use Rattle.std.proofs.Common.{◌≡◌, ℕ, ◌+◌, ◌<◌, ◌≤◌, ◌==◌, ◌*◌, Bool, List, [], ◌∷◌, length, map, filter, refl, ap, ◌∙◌, sym, subst, arith}
 use Rattle.std.specs.Prelude.{All}
 use Rattle.std.specs.declared.option.Option.{Option}
 use Rattle.std.specs.Io.KnownBytes.{Appends}
@@ -8,6 +8,7 @@ use Rattle.std.proofs.lemmas.List.Sums.{length-filter}
 use Rattle.std.proofs.lemmas.List.Elements.{All-nil, All-cons, All-head, All-tail, All-weaker, All-map}
 use Rattle.ep_rules.specs.EntryPoint.Configuration.{Combination, Config, IsConfig, count_of}
 use Rattle.ep_base.specs.Streams.Io.{AppendsPrefix}
+use Rattle.ep_base.specs.declared.limits.TheConstants.{NAMED}
 use Rattle.ep_rules.specs.EntryPoint.Kernel.{steps_left}
 use Rattle.ep_rules.specs.EntryPoint.PreProcessing.{prepared_one, prepared}
 use Rattle.law_radio.proofs.Finding.{new_field_law}
@@ -18,14 +19,15 @@ use Rattle.ep_lanes.specs.Lanes.{Held, new_lanes}
 use Rattle.ep_lanes.specs.Probing.{ProbeAnswers}
 use Rattle.lane_report.specs.Reports.{HasRun, IsFew, IsNewWork}
 use Rattle.lane_report.specs.Shows.{Tells}
-use Rattle.lane_report.specs.Works.{LaneWork, job_of, new_work, all_jobs, jobs_of}
+use Rattle.lane_jobs.specs.Works.{LaneWork, new_work, all_jobs, jobs_of}
 use Rattle.scenario.specs.Accepted.{IsLawful, IsLane, IsAccepted}
+use Rattle.scenario.specs.Jobs.{job_of, jobs_in}
 use Rattle.scenario.specs.Plan.{Transaction, Plan}
-use Rattle.scenario.specs.Scene.{Work, Scene, room_of, work_of, scene_of}
-use Rattle.ep_program.specs.Headline.{jobs_in, IsFresh, IsReady}
+use Rattle.scenario.specs.Scenario.{Work, Scenario, room_of, work_of, scenario_of}
+use Rattle.ep_program.specs.Headline.{IsFresh, IsReady}
 use Rattle.ep_program.specs.Input.{Gives, Opens}
 use Rattle.ep_claim.specs.Promise.Run.{HasPromise}
-use Rattle.ep_program.specs.Serve.{Outside, IsTextOf, Writes, WritesPart, Reports, Runs}
+use Rattle.ep_program.specs.Serve.{Surroundings, IsTextOf, Writes, WritesPart, Reports, Runs}
 use Rattle.ep_program.specs.declared.status.Status.{Status}
 use Rattle.ep_program.specs.declared.status.Status.TheVariants.{Done, ReadFault, WriteFault, NoMemory, Usage, TooLong, NotToml, BadDocument, Mismatch}
 use Rattle.ep_program.proofs.Promising.{MayBegin, may_begin, promised}
@@ -42,11 +44,11 @@ prepared_count settings txn_type amount =
 one_more : (x b : ℕ) → x + b < x + b + 1
 one_more x b = omega arith
 
-room_more : (a a' b b' n m : ℕ) → a ≡ a' → b ≡ b' → n ≡ m → (1 + a) * (1 + 28 * n) + b < (1 + a') * (1 + 28 * m) + b' + 1
+room_more : (a a' b b' n m : ℕ) → a ≡ a' → b ≡ b' → n ≡ m → (1 + a) * (1 + NAMED * n) + b < (1 + a') * (1 + NAMED * m) + b' + 1
 room_more a a' b b' n m ea eb en =
-    subst (λ k. (1 + a) * (1 + 28 * n) + b < (1 + k) * (1 + 28 * m) + b' + 1) ea
-    (subst (λ k. (1 + a) * (1 + 28 * n) + b < (1 + a) * (1 + 28 * k) + b' + 1) en
-    (subst (λ k. (1 + a) * (1 + 28 * n) + b < (1 + a) * (1 + 28 * n) + k + 1) eb (one_more ((1 + a) * (1 + 28 * n)) b)))
+    subst (λ k. (1 + a) * (1 + NAMED * n) + b < (1 + k) * (1 + NAMED * m) + b' + 1) ea
+    (subst (λ k. (1 + a) * (1 + NAMED * n) + b < (1 + a) * (1 + NAMED * k) + b' + 1) en
+    (subst (λ k. (1 + a) * (1 + NAMED * n) + b < (1 + a) * (1 + NAMED * n) + k + 1) eb (one_more ((1 + a) * (1 + NAMED * n)) b)))
 
 no_more : (n : ℕ) → n + 0 ≡ n
 no_more n = omega arith
@@ -73,7 +75,7 @@ module _ (settings : Config) (limits : IsConfig settings) (fsdi : ℕ) where
 lane_short : (settings : Config) (lane : List Transaction) → IsLane lane → length (map (work_of settings) lane) ≤ 64
 lane_short settings lane is = subst (λ n. n ≤ 64) (sym (length-map lane (work_of settings))) is.short
 
-is_ready : (p : Plan) → IsAccepted p → IsReady (scene_of p)
+is_ready : (p : Plan) → IsAccepted p → IsReady (scenario_of p)
 is_ready p accepted = record {
   code = accepted.fsdi;
   few = subst (λ n. n ≤ 8) (sym (length-map p.lanes (λ lane. map (work_of p.config) lane))) accepted.few;
@@ -86,7 +88,7 @@ is_ready p accepted = record {
       (lane_fresh p.config accepted.config p.fsdi) p.lanes accepted.lanes);
 }
 
-pub opened_ready : (input : Option (List ℕ)) (s : Scene) → Opens input s → IsReady s
+pub opened_ready : (input : Option (List ℕ)) (s : Scenario) → Opens input s → IsReady s
 opened_ready input s opens = let says = opens.1 in subst IsReady (sym says.scene) (is_ready says.document says.accepted)
 
 -- ---- what lanes have to do before their first transactions
@@ -149,7 +151,7 @@ module _ (settings : Config) (fsdi : ℕ) where
       All-map (All (MayBegin fsdi)) (λ lane. map (job_of settings) lane) lanes
       (All-weaker (All (IsFresh settings fsdi)) (λ lane. All (MayBegin fsdi) (map (job_of settings) lane)) jobs_begin lanes fresh)
 
-is_text : {P : Type 0} (steps : ProbeSteps P) (traced : Bool) (s : Scene) (p : P) (text : List ℕ) (q : P) → IsReady s
+is_text : {P : Type 0} (steps : ProbeSteps P) (traced : Bool) (s : Scenario) (p : P) (text : List ℕ) (q : P) → IsReady s
     → HasRun traced steps s.fsdi s.turns p (jobs_in s) text q
     → IsTextOf steps traced s p text q
 is_text steps traced s p text q ready run = record {
@@ -161,7 +163,7 @@ is_text steps traced s p text q ready run = record {
       (promised steps traced s.fsdi s.turns p (jobs_in s) run.exchanges gives (lanes_begin s.config s.fsdi s.lanes ready.fresh) run.over);
 }
 
-module _ {P : Type 0} (answers : ProbeAnswers P) (traced : Bool) (s : Scene) (ready : IsReady s) (before after : Outside P) where
+module _ {P : Type 0} (answers : ProbeAnswers P) (traced : Bool) (s : Scenario) (ready : IsReady s) (before after : Surroundings P) where
   abbrev pub RunsTo : List ℕ → List (List Job) → Type 0
   RunsTo turns jobs =
       (steps : ProbeSteps P) → Tells answers steps →
@@ -186,8 +188,8 @@ module _ {P : Type 0} (answers : ProbeAnswers P) (traced : Bool) (s : Scene) (re
       let (text, q, has, appended) = part steps tells in
       (text, q, is_text steps traced s before.probe text q ready has, appended)
 
-module _ {P : Type 0} (answers : ProbeAnswers P) (traced : Bool) (input : Option (List ℕ)) (before after : Outside P) where
-  of_plan : (p : Plan) → Gives input p → (status : Status) → Runs answers traced (scene_of p) before after status
+module _ {P : Type 0} (answers : ProbeAnswers P) (traced : Bool) (input : Option (List ℕ)) (before after : Surroundings P) where
+  of_plan : (p : Plan) → Gives input p → (status : Status) → Runs answers traced (scenario_of p) before after status
       → Reports answers traced input before after status
   of_plan p gives Done r = (p, gives, r)
   of_plan p gives ReadFault r = absurd r
@@ -199,9 +201,9 @@ module _ {P : Type 0} (answers : ProbeAnswers P) (traced : Bool) (input : Option
   of_plan p gives (BadDocument f) r = absurd r
   of_plan p gives (Mismatch m) r = absurd r
 
-  -- A scene that was read and run is reported.
-  pub reported : (s : Scene) → Opens input s → (status : Status) → Runs answers traced s before after status
+  -- A scenario that was read and run is reported.
+  pub reported : (s : Scenario) → Opens input s → (status : Status) → Runs answers traced s before after status
       → Reports answers traced input before after status
   reported s opens status r =
       let says = opens.1 in
-      of_plan says.document (opens.0, says.reads, opens.2) status (subst (λ (t : Scene). Runs answers traced t before after status) says.scene r)
+      of_plan says.document (opens.0, says.reads, opens.2) status (subst (λ (t : Scenario). Runs answers traced t before after status) says.scene r)

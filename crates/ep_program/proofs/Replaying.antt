@@ -16,11 +16,12 @@ use Rattle.lane_replay.specs.Shows.{all_talks}
 use Rattle.ep_claim.specs.Lanes.WholeReplay.{ReplayEnds}
 use Rattle.lane_replay.proofs.Differing.{mismatches_differ_law}
 use Rattle.lane_replay.proofs.Stopping.{one_end_law}
-use Rattle.lane_report.specs.Works.{LaneWork, new_work, talk_in}
+use Rattle.lane_jobs.specs.Works.{LaneWork, new_work}
+use Rattle.scenario.specs.Jobs.{talk_in, talks_in}
 use Rattle.scenario.specs.Plan.{Plan, plan}
-use Rattle.scenario.specs.Scene.{Work, Scene, scene_of}
+use Rattle.scenario.specs.Scenario.{Work, Scenario, scenario_of}
 use Rattle.ep_program.specs.Input.{Gives, Opens, Refuses}
-use Rattle.ep_program.specs.Replay.{trace_lines, replay_plan, talks_in, IsReplayText, WritesReplay, WritesReplayPart, Plays, Replays}
+use Rattle.ep_program.specs.Replay.{trace_lines, replay_plan, IsReplayText, WritesReplay, WritesReplayPart, Plays, Replays}
 use Rattle.ep_program.specs.declared.status.Status.{Status}
 use Rattle.ep_program.specs.declared.status.Status.TheVariants.{Done, ReadFault, WriteFault, NoMemory, Usage, TooLong, NotToml, BadDocument, Mismatch}
 
@@ -45,12 +46,12 @@ module _ {V : Type 0} (items : V → List Work) where
 
 -- ---- a replay's text
 
-differ_by : (s : Scene) (lines : List TraceLine) (mismatch : Option traces.Mismatch) (text : List ℕ)
+differ_by : (s : Scenario) (lines : List TraceLine) (mismatch : Option traces.Mismatch) (text : List ℕ)
     → ReplayEnds s.fsdi s.turns lines (talks_in s) mismatch text → IfSome mismatch (λ (m : traces.Mismatch). m.wanted ≢ m.got)
 differ_by s lines None text ends = tt
 differ_by s lines (Some m) text ends = mismatches_differ_law s.fsdi s.turns lines (talks_in s) m text ends
 
-is_text : (s : Scene) (lines : List TraceLine) (mismatch : Option traces.Mismatch) (text : List ℕ)
+is_text : (s : Scenario) (lines : List TraceLine) (mismatch : Option traces.Mismatch) (text : List ℕ)
     → ReplayEnds s.fsdi s.turns lines (talks_in s) mismatch text → IsReplayText s lines mismatch text
 is_text s lines mismatch text ends = record {
   ends = ends;
@@ -58,8 +59,8 @@ is_text s lines mismatch text ends = record {
   only = λ other said x. one_end_law s.fsdi s.turns lines (talks_in s) other mismatch said text x ends;
 }
 
--- What was written of a scene's lanes, where its turn list, its trace lines and its transactions are these.
-module _ (s : Scene) (lines : List TraceLine) (before after : Option (List ℕ)) (turns : List ℕ) (trace : List TraceLine) (jobs : List (List Talk))
+-- What was written of a scenario's lanes, where its turn list, its trace lines and its transactions are these.
+module _ (s : Scenario) (lines : List TraceLine) (before after : Option (List ℕ)) (turns : List ℕ) (trace : List TraceLine) (jobs : List (List Talk))
     (same_turns : turns ≡ s.turns) (same_trace : trace ≡ lines) (same_jobs : jobs ≡ talks_in s) where
   ends_in : (mismatch : Option traces.Mismatch) (text : List ℕ) → ReplayEnds s.fsdi turns trace jobs mismatch text
       → ReplayEnds s.fsdi s.turns lines (talks_in s) mismatch text
@@ -88,7 +89,7 @@ with_lines members p r read is =
     ap (λ (x : Result Plan Fault). x >>= λ q. trace_lines q.trace >>= λ ls. Ok (q, ls)) read ∙ ap (λ (x : Result (List TraceLine) Fault). x >>= λ ls. Ok (p, ls)) is
 
 module _ (input : Option (List ℕ)) (before after : Option (List ℕ)) where
-  of_plan : (p : Plan) → Gives input p → (status : Status) → Plays (scene_of p) before after status → Replays input before after status
+  of_plan : (p : Plan) → Gives input p → (status : Status) → Plays (scenario_of p) before after status → Replays input before after status
   of_plan p gives Done r = (p, r.0, (gives.0, with_lines gives.0 p (Ok r.0) gives.1 r.1, gives.2), r.2)
   of_plan p gives (Mismatch m) r = (p, r.0, (gives.0, with_lines gives.0 p (Ok r.0) gives.1 r.1, gives.2), r.2)
   of_plan p gives WriteFault r = (p, r.0, (gives.0, with_lines gives.0 p (Ok r.0) gives.1 r.1, gives.2), r.2)
@@ -99,11 +100,11 @@ module _ (input : Option (List ℕ)) (before after : Option (List ℕ)) where
   of_plan p gives TooLong r = absurd r
   of_plan p gives NotToml r = absurd r
 
-  -- A scene that was read and replayed is answered.
-  pub replayed : (s : Scene) → Opens input s → (status : Status) → Plays s before after status → Replays input before after status
+  -- A scenario that was read and replayed is answered.
+  pub replayed : (s : Scenario) → Opens input s → (status : Status) → Plays s before after status → Replays input before after status
   replayed s opens status r =
       let says = opens.1 in
-      of_plan says.document (opens.0, says.reads, opens.2) status (subst (λ (t : Scene). Plays t before after status) says.scene r)
+      of_plan says.document (opens.0, says.reads, opens.2) status (subst (λ (t : Scenario). Plays t before after status) says.scene r)
 
   -- So is an input that gave nothing.
   pub refused : (status : Status) → Refuses input status → Keeps before after → Replays input before after status

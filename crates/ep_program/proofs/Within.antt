@@ -14,7 +14,7 @@ use Rattle.law_run.proofs.Legal.{scripted_lem}
 use Rattle.ep_claim.specs.Lanes.Standing.{Standing, started}
 use Rattle.ep_claim.specs.Lanes.Exchanges.{Lane}
 use Rattle.ep_claim.specs.Promise.Counts.{heard_in, counts_after, NextFits, IsUnderWay}
-use Rattle.ep_claim.specs.Lanes.Counting.{IsBounded, after_all, exchanges_most}
+use Rattle.ep_claim.specs.Lanes.Counting.{IsBounded, after_hearings, exchanges_most}
 use Rattle.ep_claim.specs.Lanes.Ending.{AreOverAfter, LanesOverAfter}
 use Rattle.ep_claim.specs.Lanes.LaneText.{Job, Going}
 use Rattle.ep_claim.specs.Promise.Logs.{LogFits}
@@ -28,9 +28,10 @@ use Rattle.law_turns.proofs.Ending.{runs_end_within_law}
 use Rattle.law_turns.proofs.Logging.{logs_fit_law}
 use Rattle.law_turns.proofs.Making.{are_under_way_law}
 use Rattle.law_turns.proofs.Telling.{keeps_in_run_law}
-use Rattle.lane_report.specs.Works.{preparation, talk_in, job_of}
-use Rattle.scenario.specs.Scene.{Work, Scene}
-use Rattle.ep_program.specs.Headline.{jobs_in, IsFresh, IsReady}
+use Rattle.lane_jobs.specs.Works.{preparation}
+use Rattle.scenario.specs.Jobs.{job_of, jobs_in, talk_in}
+use Rattle.scenario.specs.Scenario.{Work, Scenario}
+use Rattle.ep_program.specs.Headline.{IsFresh, IsReady}
 use Rattle.ep_claim.specs.Promise.Run.{GivesOn}
 use Rattle.ep_claim.specs.Promise.Transaction.{cards_in}
 use Rattle.ep_program.specs.Bounded.{commands_most, starts_most, works_of, IsInWork, StaysWithin, exchanges_of, IsBoundedRun, HasFreeRecord, KeepsRecordsFree}
@@ -155,8 +156,8 @@ module _ (settings : Config) (fsdi : ℕ) where
       let x = parted works m.before m.job g.left fresh m.all in
       let talk = talk_in settings x.one in
       let same : m.job.talk ≡ talk = ap (λ (j : Job). j.talk) x.is in
-      let led : g.lane.standing ≡ after_all fsdi talk (heard_in g.lane.exchanges) (started talk) =
-      m.led ∙ ap (λ t. after_all fsdi t (heard_in g.lane.exchanges) (started t)) same in
+      let led : g.lane.standing ≡ after_hearings fsdi talk (heard_in g.lane.exchanges) (started talk) =
+      m.led ∙ ap (λ t. after_hearings fsdi t (heard_in g.lane.exchanges) (started t)) same in
       record {
         now = in_work works g m.before m.job x m.number m.talks;
         led = led;
@@ -217,7 +218,7 @@ module _ (settings : Config) (fsdi : ℕ) where
   lanes_over (works ∷ rest) fresh =
       (lane_over works (All-head (All Begins) works rest fresh), lanes_over rest (All-tail (All Begins) works rest fresh))
 
-pub is_bounded_run : {P : Type 0} (traced : Bool) (steps : ProbeSteps P) (s : Scene) (p : P) → IsReady s → IsBoundedRun traced steps s p
+pub is_bounded_run : {P : Type 0} (traced : Bool) (steps : ProbeSteps P) (s : Scenario) (p : P) → IsReady s → IsBoundedRun traced steps s p
 is_bounded_run traced steps s p ready = record {
   transactions = λ n lane g is.
       stays_within s.config s.fsdi (works_of 1 s.lanes lane) g (all_begin s.config s.fsdi 1 lane s.lanes ready.fresh)
@@ -228,7 +229,7 @@ is_bounded_run traced steps s p ready = record {
       (lanes_over s.config s.fsdi s.lanes ready.fresh);
 }
 
-pub keeps_records_free : {P : Type 0} (traced : Bool) (steps : ProbeSteps P) (s : Scene) (p : P) → IsReady s → GivesOn steps
+pub keeps_records_free : {P : Type 0} (traced : Bool) (steps : ProbeSteps P) (s : Scenario) (p : P) → IsReady s → GivesOn steps
     → KeepsRecordsFree traced steps s p
 keeps_records_free traced steps s p ready gives = record {
   running = λ n lane g is.

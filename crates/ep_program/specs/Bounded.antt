@@ -5,14 +5,13 @@ use Rattle.ep_rules.specs.EntryPoint.Kernel.{steps_left}
 use Rattle.ep_rules.specs.EntryPoint.Bounds.{log_bound}
 use Rattle.ep_claim.specs.Lanes.Standing.{started}
 use Rattle.ep_claim.specs.Promise.Counts.{heard_in, counts_after, NextFits}
-use Rattle.ep_claim.specs.Lanes.Counting.{after_all, exchanges_most}
+use Rattle.ep_claim.specs.Lanes.Counting.{after_hearings, exchanges_most}
 use Rattle.ep_claim.specs.Lanes.Ending.{in_all, HasEnded}
 use Rattle.ep_claim.specs.Lanes.LaneText.{Going}
 use Rattle.ep_claim.specs.Promise.Logs.{LogFits}
 use Rattle.ep_claim.specs.Lanes.WholeRun.{ProbeSteps, run_after}
-use Rattle.lane_report.specs.Works.{talk_in, job_of}
-use Rattle.scenario.specs.Scene.{Work, Scene}
-use Rattle.ep_program.specs.Headline.{jobs_in}
+use Rattle.scenario.specs.Jobs.{job_of, jobs_in, talk_in}
+use Rattle.scenario.specs.Scenario.{Work, Scenario}
 
 -- The most commands of a transaction, and so the most records of its log: by its scripts, the Combinations of its type, and the steps of all its
 -- scripts (this project's profile).
@@ -42,7 +41,7 @@ pub record IsInWork (settings : Config) (works : List Work) (g : Going) : Type 0
 -- there are at most 32, a command has at most 280 toggles, and the transaction at most the log bound's commands (this project's profile).
 pub record StaysWithin (settings : Config) (fsdi : ℕ) (works : List Work) (g : Going) : Type 0 where
   pub now : IsInWork settings works g
-  pub led : g.lane.standing ≡ after_all fsdi (talk_in settings now.work) (heard_in g.lane.exchanges) (started (talk_in settings now.work))
+  pub led : g.lane.standing ≡ after_hearings fsdi (talk_in settings now.work) (heard_in g.lane.exchanges) (started (talk_in settings now.work))
   pub fits :
       NextFits (commands_most settings now.work) (starts_most now.work) g.lane.standing.doing
       (counts_after fsdi (talk_in settings now.work) (heard_in g.lane.exchanges))
@@ -53,7 +52,7 @@ exchanges_of settings lanes = map (λ lane. map (λ w. exchanges_most (commands_
 
 -- After every count of a run's exchanges each lane's open transaction stays within its bounds, whatever the probe makes of the hearings; and the run
 -- is over after the most exchanges of all transactions together (this project's own).
-pub record IsBoundedRun {P : Type 0} (traced : Bool) (steps : ProbeSteps P) (s : Scene) (p : P) : Type 0 where
+pub record IsBoundedRun {P : Type 0} (traced : Bool) (steps : ProbeSteps P) (s : Scenario) (p : P) : Type 0 where
   pub transactions : (n lane : ℕ) (g : Going) → (run_after traced steps s.fsdi s.turns p (jobs_in s) n).lanes lane ≡ Some g →
       StaysWithin s.config s.fsdi (works_of 1 s.lanes lane) g
   pub whole : HasEnded (length (jobs_in s)) (run_after traced steps s.fsdi s.turns p (jobs_in s) (in_all (exchanges_of s.config s.lanes)))
@@ -66,7 +65,7 @@ pub record HasFreeRecord (settings : Config) (works : List Work) (g : Going) : T
 
 -- So it is of each lane after every count of the run's exchanges; and of each transaction after every count of its own, its last one too (this
 -- project's own).
-pub record KeepsRecordsFree {P : Type 0} (traced : Bool) (steps : ProbeSteps P) (s : Scene) (p : P) : Type 0 where
+pub record KeepsRecordsFree {P : Type 0} (traced : Bool) (steps : ProbeSteps P) (s : Scenario) (p : P) : Type 0 where
   pub running : (n lane : ℕ) (g : Going) → (run_after traced steps s.fsdi s.turns p (jobs_in s) n).lanes lane ≡ Some g →
       HasFreeRecord s.config (works_of 1 s.lanes lane) g
   pub logs : All (All (λ w. (n : ℕ) → LogFits s.fsdi (commands_most s.config w) (job_of s.config w) n)) s.lanes

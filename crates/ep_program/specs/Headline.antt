@@ -1,20 +1,15 @@
 -- The transactions of a document's lanes, and when they may begin (this project's own).
-use Rattle.std.specs.Prelude.{ℕ, ◌<◌, ◌≤◌, All, List, length, map, None}
+use Rattle.std.specs.Prelude.{ℕ, ◌<◌, ◌≤◌, All, length, None}
 use Rattle.ep_rules.specs.EntryPoint.Configuration.{Config}
 use Rattle.ep_base.specs.Cards.Field.{Field}
 use Rattle.ep_base.specs.Poll.Radio.{Radio}
 use Rattle.ep_rules.specs.EntryPoint.Kernel.{scripted}
 use Rattle.ep_rules.specs.EntryPoint.Bounds.{log_bound}
-use Rattle.ep_claim.specs.Promise.Cards.{number_in, image_in}
+use Rattle.ep_claim.specs.Promise.Cards.{number_of_card, image_in}
 use Rattle.ep_claim.specs.Promise.Perfection.{IsNew}
-use Rattle.ep_claim.specs.Lanes.LaneText.{Job}
-use Rattle.scenario.specs.Scene.{Work, Scene}
+use Rattle.scenario.specs.Scenario.{Work, Scenario}
 use Rattle.lane_report.specs.Reports.{IsFew}
-use Rattle.lane_report.specs.Works.{preparation, job_of}
-
--- The transactions of a scene's lanes, each before its first exchange (this project's own).
-abbrev pub jobs_in : Scene → List (List Job)
-jobs_in s = map (λ lane. map (job_of s.config) lane) s.lanes
+use Rattle.lane_jobs.specs.Works.{preparation}
 
 -- The reader's radio before a transaction's first round (this project's own).
 abbrev pub radio_before : ℕ → Work → Radio Field
@@ -23,12 +18,12 @@ radio_before fsdi w = record { medium = w.field; fsdi = fsdi; link = None }
 -- A transaction that may begin: its radio is new, its kernels follow few scripts, which send commands, and its log has room for more than these
 -- (this project's own).
 pub record IsFresh (settings : Config) (fsdi : ℕ) (w : Work) : Type 0 where
-  pub new : IsNew (number_in w.field.cards) (image_in w.field.cards) (radio_before fsdi w)
+  pub new : IsNew (number_of_card w.field.cards) (image_in w.field.cards) (radio_before fsdi w)
   pub few : IsFew settings w
   pub room : log_bound (scripted.restarts w.scripts) (length (preparation settings w).list) (scripted.commands w.scripts) < w.field.room
 
--- A scene whose transactions may begin: at most 8 lanes of at most 64 transactions, and a frame size code of at most 8 (this project's own).
-pub record IsReady (s : Scene) : Type 0 where
+-- A scenario whose transactions may begin: at most 8 lanes of at most 64 transactions, and a frame size code of at most 8 (this project's own).
+pub record IsReady (s : Scenario) : Type 0 where
   pub code : s.fsdi ≤ 8
   pub few : length s.lanes ≤ 8
   pub short : All (λ lane. length lane ≤ 64) s.lanes

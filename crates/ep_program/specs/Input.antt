@@ -5,7 +5,7 @@ use Rattle.toml.specs.Data.{Members}
 use Rattle.ep_base.specs.declared.limits.TheConstants.{INPUT}
 use Rattle.scenario.specs.Document.{IsDocument, Says}
 use Rattle.scenario.specs.Plan.{Plan, plan}
-use Rattle.scenario.specs.Scene.{Scene}
+use Rattle.scenario.specs.Scenario.{Scenario}
 use Rattle.ep_program.specs.declared.status.Status.{Status}
 use Rattle.ep_program.specs.declared.status.Status.TheVariants.{Done, ReadFault, WriteFault, NoMemory, Usage, TooLong, NotToml, BadDocument, Mismatch}
 
@@ -17,8 +17,8 @@ IsInput input members = IfSome input (λ bytes. (length bytes ≤ INPUT) × IsDo
 abbrev pub Gives : Option (List ℕ) → Plan → Type 0
 Gives input p = (members : Members) × (plan members ≡ Ok p) × IsInput input members
 
--- The input, where its bytes are told, is an accepted document that says this scene (this project's own).
-abbrev pub Opens : Option (List ℕ) → Scene → Type 0
+-- The input, where its bytes are told, is an accepted document that says this scenario (this project's own).
+abbrev pub Opens : Option (List ℕ) → Scenario → Type 0
 Opens input s = (members : Members) × Says members s × IsInput input members
 
 -- The answer to an input that gave too much (this project's own).

@@ -5,15 +5,15 @@ use Rattle.std.specs.Io.KnownBytes.{Appends, Keeps}
 use Rattle.ep_base.specs.Streams.Io.{AppendsPrefix}
 use Rattle.ep_load.specs.Load.{generated}
 use Rattle.ep_claim.specs.Lanes.LaneText.{Job}
-use Rattle.load_run.specs.Counts.{Counts, IsTotal, jobs_in}
+use Rattle.load_run.specs.Counts.{Counts, IsTotal, jobs_in_order}
 use Rattle.load_run.specs.Summary.{summary_line_of}
-use Rattle.scenario.specs.Scene.{scene_of}
+use Rattle.scenario.specs.Scenario.{scenario_of}
 use Rattle.ep_program.specs.declared.status.Status.{Status}
 use Rattle.ep_program.specs.declared.status.Status.TheVariants.{Done, ReadFault, WriteFault, NoMemory, Usage, TooLong, NotToml, BadDocument, Mismatch}
 
 -- The transactions of the load of this seed with so many of them, those of each lane after those of the lane before (this project's own).
 abbrev pub load_jobs : (seed count : ℕ) → List Job
-load_jobs seed count = jobs_in (scene_of (generated seed count)).config (scene_of (generated seed count)).lanes
+load_jobs seed count = jobs_in_order (scenario_of (generated seed count)).config (scenario_of (generated seed count)).lanes
 
 -- These are the numbers of all transactions of the load together (this project's own).
 abbrev pub IsLoadTotal : (seed count : ℕ) → Counts → Type 0

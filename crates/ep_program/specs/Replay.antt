@@ -1,5 +1,5 @@
 -- What the program answers to the words of a replay, and what it wrote then (this project's own).
-use Rattle.std.specs.Prelude.{codes, ◌≡◌, ◌≢◌, ℕ, List, [], map, Some, None, Result, Ok, Err, IfSome}
+use Rattle.std.specs.Prelude.{codes, ◌≡◌, ◌≢◌, ℕ, List, [], Some, None, Result, Ok, Err, IfSome}
 use Rattle.std.specs.declared.option.Option.{Option}
 use Rattle.std.specs.Io.KnownBytes.{Appends, Keeps}
 use Rattle.toml.specs.Data.{Members}
@@ -8,12 +8,11 @@ use Rattle.doc_table.specs.Path.{key_path}
 use Rattle.doc_table.specs.Read.{◌>>=◌, wanted}
 use Rattle.ep_base.specs.Streams.Io.{AppendsPrefix}
 use Rattle.ep_claim.specs.Lanes.ReplayRun as traces
-use Rattle.ep_rules.specs.EntryPoint.Talk.{Talk}
 use Rattle.ep_claim.specs.Text.TraceLine.{TraceLine}
 use Rattle.ep_claim.specs.Lanes.WholeReplay.{ReplayEnds}
-use Rattle.lane_report.specs.Works.{talk_in}
+use Rattle.scenario.specs.Jobs.{talks_in}
 use Rattle.scenario.specs.Plan.{Plan, plan}
-use Rattle.scenario.specs.Scene.{Scene, scene_of}
+use Rattle.scenario.specs.Scenario.{Scenario, scenario_of}
 use Rattle.ep_program.specs.Input.{IsInput, Refuses}
 use Rattle.ep_program.specs.declared.status.Status.{Status}
 use Rattle.ep_program.specs.declared.status.Status.TheVariants.{Done, ReadFault, WriteFault, NoMemory, Usage, TooLong, NotToml, BadDocument, Mismatch}
@@ -34,35 +33,31 @@ replay_plan members = do
 abbrev pub GivesTrace : Option (List ℕ) → Plan → List TraceLine → Type 0
 GivesTrace input p lines = (members : Members) × (replay_plan members ≡ Ok (p, lines)) × IsInput input members
 
--- The transactions of a scene's lanes, as what each says and asks; their cards aren't used (after EMV Contactless Book B).
-abbrev pub talks_in : Scene → List (List Talk)
-talks_in s = map (λ lane. map (talk_in s.config) lane) s.lanes
-
--- The replay of a scene's lanes against these lines ends so, matched or with its first mismatch, of which what is wanted and what was sent differ, and
+-- The replay of a scenario's lanes against these lines ends so, matched or with its first mismatch, of which what is wanted and what was sent differ, and
 -- with this text; it has no other end and no other text (this project's own).
-pub record IsReplayText (s : Scene) (lines : List TraceLine) (mismatch : Option traces.Mismatch) (text : List ℕ) : Type 0 where
+pub record IsReplayText (s : Scenario) (lines : List TraceLine) (mismatch : Option traces.Mismatch) (text : List ℕ) : Type 0 where
   pub ends : ReplayEnds s.fsdi s.turns lines (talks_in s) mismatch text
   pub differ : IfSome mismatch (λ (m : traces.Mismatch). m.wanted ≢ m.got)
   pub only : (other : Option traces.Mismatch) (said : List ℕ) → ReplayEnds s.fsdi s.turns lines (talks_in s) other said →
       (other ≡ mismatch) × (said ≡ text)
 
 -- The replay ended so, and its whole text was appended (this project's own).
-abbrev pub WritesReplay : Scene → List TraceLine → (before after : Option (List ℕ)) → Option traces.Mismatch → Type 0
+abbrev pub WritesReplay : Scenario → List TraceLine → (before after : Option (List ℕ)) → Option traces.Mismatch → Type 0
 WritesReplay s lines before after mismatch = (text : List ℕ) × IsReplayText s lines mismatch text × Appends before after text
 
 -- A first part of the replay's text was appended (this project's own).
-abbrev pub WritesReplayPart : Scene → List TraceLine → (before after : Option (List ℕ)) → Type 0
+abbrev pub WritesReplayPart : Scenario → List TraceLine → (before after : Option (List ℕ)) → Type 0
 WritesReplayPart s lines before after =
     (mismatch : Option traces.Mismatch) × (text : List ℕ) × IsReplayText s lines mismatch text × AppendsPrefix before after text
 
 -- What a replay answers: `Done` exactly where it is matched, and `Mismatch` with the first one, each with its whole text; `WriteFault` with a first
 -- part of the text; and every other status with nothing written and with its reason (this project's own).
 abbrev pub Replays : Option (List ℕ) → (before after : Option (List ℕ)) → Status → Type 0
-Replays input before after Done = (p : Plan) × (lines : List TraceLine) × GivesTrace input p lines × WritesReplay (scene_of p) lines before after None
+Replays input before after Done = (p : Plan) × (lines : List TraceLine) × GivesTrace input p lines × WritesReplay (scenario_of p) lines before after None
 Replays input before after (Mismatch m) =
-    (p : Plan) × (lines : List TraceLine) × GivesTrace input p lines × WritesReplay (scene_of p) lines before after (Some m)
+    (p : Plan) × (lines : List TraceLine) × GivesTrace input p lines × WritesReplay (scenario_of p) lines before after (Some m)
 Replays input before after WriteFault =
-    (p : Plan) × (lines : List TraceLine) × GivesTrace input p lines × WritesReplayPart (scene_of p) lines before after
+    (p : Plan) × (lines : List TraceLine) × GivesTrace input p lines × WritesReplayPart (scenario_of p) lines before after
 Replays input before after (BadDocument f) =
     (members : Members) × (replay_plan members ≡ Err f) × IsInput input members × Keeps before after
 Replays input before after ReadFault = Refuses input ReadFault × Keeps before after
@@ -71,8 +66,8 @@ Replays input before after TooLong = Refuses input TooLong × Keeps before after
 Replays input before after NotToml = Refuses input NotToml × Keeps before after
 Replays input before after Usage = ⊥
 
--- What replaying a scene answers, and what it writes (this project's own).
-abbrev pub Plays : Scene → (before after : Option (List ℕ)) → Status → Type 0
+-- What replaying a scenario answers, and what it writes (this project's own).
+abbrev pub Plays : Scenario → (before after : Option (List ℕ)) → Status → Type 0
 Plays s before after Done = (lines : List TraceLine) × (trace_lines s.trace ≡ Ok lines) × WritesReplay s lines before after None
 Plays s before after (Mismatch m) = (lines : List TraceLine) × (trace_lines s.trace ≡ Ok lines) × WritesReplay s lines before after (Some m)
 Plays s before after WriteFault = (lines : List TraceLine) × (trace_lines s.trace ≡ Ok lines) × WritesReplayPart s lines before after

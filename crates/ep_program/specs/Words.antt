@@ -4,10 +4,10 @@ use Rattle.std.specs.Str.{all_ascii_digits}
 use Rattle.std.specs.Str.Parse.{digits_value}
 use Rattle.std.specs.declared.alloc.Global.{Global}
 use Rattle.ep_base.specs.Cards.Apdu.{same_bytes}
-use Rattle.ep_base.specs.Streams.Words.{◌>>=◌}
 use Rattle.doc_table.specs.Read.{is_within}
 use Rattle.ep_program.specs.declared.form.Form.{Form}
 use Rattle.ep_program.specs.declared.form.Form.TheVariants.{Run, RunTrace, Replay, Load}
+use Rattle.ep_base.specs.Streams.Words.{◌>>=◌}
 
 -- Whether a word is this one (this project's own).
 abbrev pub is_word : String Global → List ℕ → Bool

@@ -15,7 +15,8 @@ use crate::replay::replay_document;
 use crate::status::Status;
 use ep_base::{INPUT, NoMemory, Sink, Source};
 use ep_lanes::{Lanes, Probe};
-use lane_report::{report_lanes, works_of};
+use lane_jobs::works_of;
+use lane_report::report_lanes;
 use scenario::Scenario;
 use std::alloc::Global;
 

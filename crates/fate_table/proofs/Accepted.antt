@@ -7,7 +7,7 @@ use Rattle.std.proofs.lemmas.Bool.Decides.{nat_tests}
 use Rattle.toml.specs.Data.{Items, as_array, as_str}
 use Rattle.ep_base.specs.Air.Fates.{Fate, AreFates}
 use Rattle.rf_field.specs.declared.fates.FateRun.{FateRun}
-use Rattle.rf_field.specs.Meaning.{clean_fate, run_of, passages, IsRun}
+use Rattle.rf_field.specs.Meaning.{clean_fate, run_of, exchange_fates, IsRun}
 use Rattle.doc_table.specs.Fault.{Fault}
 use Rattle.doc_table.specs.declared.fault.TableEnd.{TableEnd}
 use Rattle.doc_table.specs.declared.fault.TableEnd.TheVariants.{NoMemory}
@@ -15,11 +15,11 @@ use Rattle.doc_table.specs.declared.fault.TableEnd.TheVariants as ends
 use Rattle.doc_table.specs.declared.list.ElementKind.TheVariants.{Integer}
 use Rattle.doc_table.specs.Read.{Place, GivesIfRoom, of_kind, allowed, defaulted, integer_in, is_of, counted, item_count}
 use Rattle.doc_table.proofs.Accepted.{Accepts, IsListOf, after, accepted_integer, accepted_list, accepted_each, accepted_defaulted}
-use Rattle.fate_table.specs.Tokens.{passage_spelled}
+use Rattle.fate_table.specs.Tokens.{fate_of_text}
 use Rattle.fate_table.specs.Fates.{clean_run, told_run, run, runs, fates_at}
 use Rattle.fate_table.specs.Presence.{ArePresences, if_number_lists, present, presence, presence_at}
 use Rattle.fate_table.proofs.Runs.{IsSome, clean, joined, all_joined, runs_are}
-use Rattle.fate_table.proofs.Spelled.{passage_is}
+use Rattle.fate_table.proofs.Spelled.{fate_is}
 
 allowed_ok : {A : Type 0} (path : List ℕ) (z : ℤ) (o : Option A) (x : A) → allowed path z o ≡ Ok x → o ≡ Some x
 allowed_ok path z (Some y) x e = cc
@@ -39,9 +39,9 @@ accepted_told : Accepts told_run IsSome
 accepted_told = record {
   is = λ path d exchanges e.
       after (of_kind path (as_str d)) _ exchanges e (λ text _ e1.
-      after (allowed path (pos (length text)) (passage_spelled text)) (λ (passage : Fate). Ok (passage ∷ [])) exchanges e1 (λ passage is e2.
-      let bounds = passage_is text passage (allowed_ok path (pos (length text)) (passage_spelled text) passage is) in
-      let same : passage ∷ [] ≡ exchanges = cc in
+      after (allowed path (pos (length text)) (fate_of_text text)) (λ (one_fate : Fate). Ok (one_fate ∷ [])) exchanges e1 (λ one_fate is e2.
+      let bounds = fate_is text one_fate (allowed_ok path (pos (length text)) (fate_of_text text) one_fate is) in
+      let same : one_fate ∷ [] ≡ exchanges = cc in
       subst IsSome same (record { some = omega arith; bursts = (bounds.0, bounds.1, tt) })));
 }
 
@@ -80,7 +80,7 @@ accepted_fates place exchanges e =
 abbrev pub ReadAs : {V : Type 0} → (V → List FateRun) → Place → Result V TableEnd → Type 0
 ReadAs items place r = GivesIfRoom (λ v. map run_of (items v)) r (defaulted [] runs (codes "fates") place)
 
-pub fates_given : {V : Type 0} (items : V → List FateRun) (place : Place) (r : Result V TableEnd) → ReadAs items place r → GivesIfRoom (λ v. passages (items v)) r (fates_at place)
+pub fates_given : {V : Type 0} (items : V → List FateRun) (place : Place) (r : Result V TableEnd) → ReadAs items place r → GivesIfRoom (λ v. exchange_fates (items v)) r (fates_at place)
 fates_given items place (Ok v) h = rw h (ap Ok (joined (items v)))
 fates_given items place (Err NoMemory) h = tt
 fates_given items place (Err (ends.Fault f)) h = rw h refl

@@ -10,9 +10,10 @@ use Rattle.hex.specs.declared.error.FromHexError.{FromHexError}
 use Rattle.hex.proofs.HexLemmas.{decode_of-ok}
 use Rattle.ep_base.specs.Air.Fates.{Way, Passes, Loses, Bursts, Leaves, Fate}
 use Rattle.ep_base.specs.Cards.Apdu.{same_bytes}
-use Rattle.ep_base.specs.Streams.Words.{cut}
+use Rattle.ep_base.specs.Streams.Words.{split_word}
+use Rattle.ep_base.specs.declared.limits.TheConstants.{LAST_START}
 use Rattle.doc_table.specs.Read.{is_within, sized}
-use Rattle.fate_table.specs.Tokens.{is_start, start_spelled, mask_of, mask_spelled, cut_at_colon, after_letter, burst_spelled, leg_spelled, passage_spelled}
+use Rattle.fate_table.specs.Tokens.{is_start, start_spelled, mask_of, mask_spelled, cut_at_colon, after_letter, burst_spelled, way_of_text, fate_of_text}
 use Rattle.fate_table.specs.Forms.{SpellsStart, SpellsMask, SpellsBurst, SpellsWay, SpellsFate}
 use Rattle.fate_table.proofs.Cuts.{HasNone, none_append, digits_have_none, hex_has_none, cut_word, cut_is, same_value}
 use Rattle.fate_table.proofs.Spelled.{after_some}
@@ -25,10 +26,10 @@ if_some false x y e = cc
 start_is : (digits : List ℕ) (start : ℕ) → start_spelled digits ≡ Some start → SpellsStart digits start
 start_is digits start e =
     let h = if_some (is_start digits) (digits_value 10 digits) start e in
-    let parts = and_parts (is_within 1 4 (length digits)) (all_ascii_digits digits && nat_le (digits_value 10 digits) 4095) h.0 in
-    let more = and_parts (all_ascii_digits digits) (nat_le (digits_value 10 digits) 4095) parts.1 in
+    let parts = and_parts (is_within 1 4 (length digits)) (all_ascii_digits digits && nat_le (digits_value 10 digits) LAST_START) h.0 in
+    let more = and_parts (all_ascii_digits digits) (nat_le (digits_value 10 digits) LAST_START) parts.1 in
     let within = and_parts (nat_le 1 (length digits)) (nat_le (length digits) 4) parts.0 in
-    let most : digits_value 10 digits ≤ 4095 = grind (arith, nat_tests, more.1) in
+    let most : digits_value 10 digits ≤ LAST_START = grind (arith, nat_tests, more.1) in
     record {
       some = grind (arith, nat_tests, within.0);
       few = grind (arith, nat_tests, within.1);
@@ -40,7 +41,7 @@ start_is digits start e =
 start_read : (digits : List ℕ) (start : ℕ) → SpellsStart digits start → start_spelled digits ≡ Some start
 start_read digits start s =
     let all : all_ascii_digits digits ≡ true = own.from digits s.all in
-    let below : nat_le (digits_value 10 digits) 4095 ≡ true = grind (arith, nat_tests, s.value, s.most) in
+    let below : nat_le (digits_value 10 digits) LAST_START ≡ true = grind (arith, nat_tests, s.value, s.most) in
     let within : is_within 1 4 (length digits) ≡ true = grind (arith, nat_tests, s.some, s.few) in
     rw (within, all, below) (ap Some s.value)
 
@@ -94,61 +95,61 @@ burst_is token leg e =
 sign_is : (token : List ℕ) (found leg : Way) → SpellsWay token found → Some found ≡ Some leg → SpellsWay token leg
 sign_is token found leg spelt e = subst (λ (l : Way). SpellsWay token l) (same_value found leg e) spelt
 
-leg_by : (token : List ℕ) (leg : Way) (passes loses leaves : Bool) → same_bytes token (codes "-") ≡ passes → same_bytes token (codes "x") ≡ loses → same_bytes token (codes "v") ≡ leaves
+way_by : (token : List ℕ) (leg : Way) (passes loses leaves : Bool) → same_bytes token (codes "-") ≡ passes → same_bytes token (codes "x") ≡ loses → same_bytes token (codes "v") ≡ leaves
     → (if passes then Some Passes else (if loses then Some Loses else (if leaves then Some Leaves else burst_spelled token))) ≡ Some leg → SpellsWay token leg
-leg_by token leg true loses leaves is_pass is_lose is_leave e = sign_is token Passes leg (same_text token (codes "-") (sym is_pass)) e
-leg_by token leg false true leaves is_pass is_lose is_leave e = sign_is token Loses leg (same_text token (codes "x") (sym is_lose)) e
-leg_by token leg false false true is_pass is_lose is_leave e = sign_is token Leaves leg (same_text token (codes "v") (sym is_leave)) e
-leg_by token leg false false false is_pass is_lose is_leave e = burst_is token leg e
+way_by token leg true loses leaves is_pass is_lose is_leave e = sign_is token Passes leg (same_text token (codes "-") (sym is_pass)) e
+way_by token leg false true leaves is_pass is_lose is_leave e = sign_is token Loses leg (same_text token (codes "x") (sym is_lose)) e
+way_by token leg false false true is_pass is_lose is_leave e = sign_is token Leaves leg (same_text token (codes "v") (sym is_leave)) e
+way_by token leg false false false is_pass is_lose is_leave e = burst_is token leg e
 
-leg_is : (token : List ℕ) (leg : Way) → leg_spelled token ≡ Some leg → SpellsWay token leg
-leg_is token leg e = leg_by token leg (same_bytes token (codes "-")) (same_bytes token (codes "x")) (same_bytes token (codes "v")) refl refl refl e
+way_is : (token : List ℕ) (leg : Way) → way_of_text token ≡ Some leg → SpellsWay token leg
+way_is token leg e = way_by token leg (same_bytes token (codes "-")) (same_bytes token (codes "x")) (same_bytes token (codes "v")) refl refl refl e
 
 burst_text : (token : List ℕ) (start mask : ℕ) (s : SpellsBurst token start mask) → token ≡ 98 ∷ (s.digits ++ 58 ∷ s.bits)
 burst_text token start mask s = s.parts ∙ simp append_assoc refl
 
-burst_read : (digits bits : List ℕ) (start mask : ℕ) → SpellsStart digits start → SpellsMask bits mask → leg_spelled (98 ∷ (digits ++ 58 ∷ bits)) ≡ Some (Bursts start mask)
+burst_read : (digits bits : List ℕ) (start mask : ℕ) → SpellsStart digits start → SpellsMask bits mask → way_of_text (98 ∷ (digits ++ 58 ∷ bits)) ≡ Some (Bursts start mask)
 burst_read digits bits start mask starts inverts =
     let colon : cut_at_colon (digits ++ 58 ∷ bits) ≡ Some (digits, bits) = cut_word 58 digits bits (digits_have_none 58 digits (inr (omega arith)) starts.all) in
     rw (colon, start_read digits start starts, mask_read bits mask inverts) refl
 
-leg_read : (token : List ℕ) (leg : Way) → SpellsWay token leg → leg_spelled token ≡ Some leg
-leg_read token Passes s = rw s refl
-leg_read token Loses s = rw s refl
-leg_read token Leaves s = rw s refl
-leg_read token (Bursts start mask) s = rw (burst_text token start mask s) (burst_read s.digits s.bits start mask s.starts s.inverts)
+way_read : (token : List ℕ) (leg : Way) → SpellsWay token leg → way_of_text token ≡ Some leg
+way_read token Passes s = rw s refl
+way_read token Loses s = rw s refl
+way_read token Leaves s = rw s refl
+way_read token (Bursts start mask) s = rw (burst_text token start mask s) (burst_read s.digits s.bits start mask s.starts s.inverts)
 
 burst_has_none : (digits bits : List ℕ) (start mask : ℕ) → SpellsStart digits start → SpellsMask bits mask → HasNone 32 (98 ∷ (digits ++ 58 ∷ bits))
 burst_has_none digits bits start mask starts inverts =
     let hex : HasNone 32 bits = hex_has_none bits (decode_of-ok bits (inverts.high ∷ inverts.low ∷ []) inverts.bytes).1 in
     (refl, none_append 32 digits (58 ∷ bits) (digits_have_none 32 digits (inl (omega arith)) starts.all) (refl, hex))
 
-leg_has_none : (token : List ℕ) (leg : Way) → SpellsWay token leg → HasNone 32 token
-leg_has_none token Passes s = rw s (refl, tt)
-leg_has_none token Loses s = rw s (refl, tt)
-leg_has_none token Leaves s = rw s (refl, tt)
-leg_has_none token (Bursts start mask) s = rw (burst_text token start mask s) (burst_has_none s.digits s.bits start mask s.starts s.inverts)
+way_has_none : (token : List ℕ) (leg : Way) → SpellsWay token leg → HasNone 32 token
+way_has_none token Passes s = rw s (refl, tt)
+way_has_none token Loses s = rw s (refl, tt)
+way_has_none token Leaves s = rw s (refl, tt)
+way_has_none token (Bursts start mask) s = rw (burst_text token start mask s) (burst_has_none s.digits s.bits start mask s.starts s.inverts)
 
-pub read_spells : (text : List ℕ) (passage : Fate) → passage_spelled text ≡ Some passage → SpellsFate text passage
-unfolding passage_spelled cut
-read_spells text passage e =
-    after_some (cut text) _ passage e (λ parts is_parts e1.
-    after_some (leg_spelled parts.0) _ passage e1 (λ down is_down e2.
-    after_some (leg_spelled parts.1) (λ up. Some (record { down = down; up = up })) passage e2 (λ up is_up e3.
+pub read_spells : (text : List ℕ) (one_fate : Fate) → fate_of_text text ≡ Some one_fate → SpellsFate text one_fate
+unfolding fate_of_text split_word
+read_spells text one_fate e =
+    after_some (split_word text) _ one_fate e (λ parts is_parts e1.
+    after_some (way_of_text parts.0) _ one_fate e1 (λ down is_down e2.
+    after_some (way_of_text parts.1) (λ up. Some (record { down = down; up = up })) one_fate e2 (λ up is_up e3.
     let made : Fate = record { down = down; up = up } in
     let space : text ≡ parts.0 ++ 32 ∷ parts.1 = cut_is 32 text parts is_parts in
     let spelt : SpellsFate text made = record {
       down = parts.0;
       up = parts.1;
       parts = space ∙ (simp append_assoc refl);
-      goes_down = leg_is parts.0 down is_down;
-      comes_up = leg_is parts.1 up is_up;
+      goes_down = way_is parts.0 down is_down;
+      comes_up = way_is parts.1 up is_up;
     } in
-    subst (λ (p : Fate). SpellsFate text p) (same_value made passage e3) spelt)))
+    subst (λ (p : Fate). SpellsFate text p) (same_value made one_fate e3) spelt)))
 
-pub spelt_is_read : (text : List ℕ) (passage : Fate) → SpellsFate text passage → passage_spelled text ≡ Some passage
-unfolding passage_spelled cut
-spelt_is_read text passage s =
+pub spelt_is_read : (text : List ℕ) (one_fate : Fate) → SpellsFate text one_fate → fate_of_text text ≡ Some one_fate
+unfolding fate_of_text split_word
+spelt_is_read text one_fate s =
     let whole : text ≡ s.down ++ 32 ∷ s.up = s.parts ∙ (simp append_assoc refl) in
-    let space : cut (s.down ++ 32 ∷ s.up) ≡ Some (s.down, s.up) = cut_word 32 s.down s.up (leg_has_none s.down passage.down s.goes_down) in
-    rw (whole, space, leg_read s.down passage.down s.goes_down, leg_read s.up passage.up s.comes_up) refl
+    let space : split_word (s.down ++ 32 ∷ s.up) ≡ Some (s.down, s.up) = cut_word 32 s.down s.up (way_has_none s.down one_fate.down s.goes_down) in
+    rw (whole, space, way_read s.down one_fate.down s.goes_down, way_read s.up one_fate.up s.comes_up) refl

@@ -5,10 +5,10 @@ use Rattle.std.proofs.lemmas.List.Elements.{All-nil, All-cons, All-head, All-tai
 use Rattle.ep_base.specs.Air.Fates.{Fate, AreFates}
 use Rattle.rf_field.specs.declared.fates.FateRun.{FateRun}
 use Rattle.rf_field.specs.declared.fates.FateRun.TheVariants.{Clean, One}
-use Rattle.rf_field.specs.Meaning.{IsRun, clean_fate, run_of, passages}
+use Rattle.rf_field.specs.Meaning.{IsRun, clean_fate, run_of, exchange_fates}
 
 -- All runs' exchanges are the exchanges of each run, joined.
-pub joined : (runs : List FateRun) → flat_map (λ (exchanges : List Fate). exchanges) (map run_of runs) ≡ passages runs
+pub joined : (runs : List FateRun) → flat_map (λ (exchanges : List Fate). exchanges) (map run_of runs) ≡ exchange_fates runs
 joined [] = refl
 joined (run ∷ runs) = ap (λ rest. run_of run ++ rest) (joined runs)
 

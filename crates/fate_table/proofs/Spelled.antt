@@ -6,9 +6,9 @@ use Rattle.hex.specs.declared.error.FromHexError.{FromHexError}
 use Rattle.hex.proofs.HexLemmas.{decode_of-ok}
 use Rattle.ep_base.specs.Air.Fates.{Way, Passes, Loses, Bursts, Leaves, IsWay, Fate}
 use Rattle.ep_base.specs.Cards.Apdu.{same_bytes}
-use Rattle.ep_base.specs.Streams.Words.{◌>>=◌, cut}
+use Rattle.ep_base.specs.Streams.Words.{◌>>=◌, split_word}
 use Rattle.doc_table.specs.Read.{is_within, sized}
-use Rattle.fate_table.specs.Tokens.{start_spelled, mask_of, mask_spelled, cut_at_colon, after_letter, burst_spelled, leg_spelled, passage_spelled}
+use Rattle.fate_table.specs.Tokens.{start_spelled, mask_of, mask_spelled, cut_at_colon, after_letter, burst_spelled, way_of_text, fate_of_text}
 
 -- A reading that gave a value gave one at its first step.
 pub after_some : {X Y : Type 0} {C : Type 0} (o : Option X) (f : X → Option Y) (y : Y) → (o >>= f) ≡ Some y → ((x : X) → o ≡ Some x → f x ≡ Some y → C) → C
@@ -37,22 +37,22 @@ burst_is token leg e =
     let same : Bursts start mask ≡ leg = cc in
     subst IsWay same (mask_small parts.1 mask is)))))
 
-leg_by : (passes loses leaves : Bool) (burst : Option Way) (leg : Way) → ((l : Way) → burst ≡ Some l → IsWay l) → (if passes then Some Passes else (if loses then Some Loses else (if leaves then Some Leaves else burst))) ≡ Some leg → IsWay leg
-leg_by true loses leaves burst leg is e = let same : Passes ≡ leg = cc in subst IsWay same tt
-leg_by false true leaves burst leg is e = let same : Loses ≡ leg = cc in subst IsWay same tt
-leg_by false false true burst leg is e = let same : Leaves ≡ leg = cc in subst IsWay same tt
-leg_by false false false burst leg is e = is leg e
+way_by : (passes loses leaves : Bool) (burst : Option Way) (leg : Way) → ((l : Way) → burst ≡ Some l → IsWay l) → (if passes then Some Passes else (if loses then Some Loses else (if leaves then Some Leaves else burst))) ≡ Some leg → IsWay leg
+way_by true loses leaves burst leg is e = let same : Passes ≡ leg = cc in subst IsWay same tt
+way_by false true leaves burst leg is e = let same : Loses ≡ leg = cc in subst IsWay same tt
+way_by false false true burst leg is e = let same : Leaves ≡ leg = cc in subst IsWay same tt
+way_by false false false burst leg is e = is leg e
 
-leg_is : (token : List ℕ) (leg : Way) → leg_spelled token ≡ Some leg → IsWay leg
-leg_is token leg e = leg_by (same_bytes token (codes "-")) (same_bytes token (codes "x")) (same_bytes token (codes "v")) (burst_spelled token) leg (burst_is token) e
+way_is : (token : List ℕ) (leg : Way) → way_of_text token ≡ Some leg → IsWay leg
+way_is token leg e = way_by (same_bytes token (codes "-")) (same_bytes token (codes "x")) (same_bytes token (codes "v")) (burst_spelled token) leg (burst_is token) e
 
 -- The bursts of an exchange that is spelled are within their bounds.
-pub passage_is : (text : List ℕ) (passage : Fate) → passage_spelled text ≡ Some passage → IsWay passage.down × IsWay passage.up
-unfolding passage_spelled
-passage_is text passage e =
-    after_some (cut text) _ passage e (λ parts _ e1.
-    after_some (leg_spelled parts.0) _ passage e1 (λ down is_down e2.
-    after_some (leg_spelled parts.1) (λ up. Some (record { down = down; up = up })) passage e2 (λ up is_up e3.
+pub fate_is : (text : List ℕ) (one_fate : Fate) → fate_of_text text ≡ Some one_fate → IsWay one_fate.down × IsWay one_fate.up
+unfolding fate_of_text
+fate_is text one_fate e =
+    after_some (split_word text) _ one_fate e (λ parts _ e1.
+    after_some (way_of_text parts.0) _ one_fate e1 (λ down is_down e2.
+    after_some (way_of_text parts.1) (λ up. Some (record { down = down; up = up })) one_fate e2 (λ up is_up e3.
     let made : Fate = record { down = down; up = up } in
-    let same : made ≡ passage = cc in
-    subst (λ (p : Fate). IsWay p.down × IsWay p.up) same (leg_is parts.0 down is_down, leg_is parts.1 up is_up))))
+    let same : made ≡ one_fate = cc in
+    subst (λ (p : Fate). IsWay p.down × IsWay p.up) same (way_is parts.0 down is_down, way_is parts.1 up is_up))))

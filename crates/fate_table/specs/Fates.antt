@@ -6,7 +6,7 @@ use Rattle.rf_field.specs.Meaning.{clean_fate}
 use Rattle.doc_table.specs.Fault.{Fault}
 use Rattle.doc_table.specs.declared.list.ElementKind.TheVariants.{Integer}
 use Rattle.doc_table.specs.Read.{◌>>=◌, Reader, Place, of_kind, allowed, defaulted, integer_in, is_of, counted, each}
-use Rattle.fate_table.specs.Tokens.{passage_spelled}
+use Rattle.fate_table.specs.Tokens.{fate_of_text}
 
 -- So many exchanges in which all frames pass, 1 to 1000000 (this project's own).
 abbrev pub clean_run : Reader (List Fate)
@@ -18,8 +18,8 @@ clean_run path d = do
 abbrev pub told_run : Reader (List Fate)
 told_run path d = do
   text ← of_kind path (as_str d)
-  passage ← allowed path (pos (length text)) (passage_spelled text)
-  Ok (passage ∷ [])
+  one_fate ← allowed path (pos (length text)) (fate_of_text text)
+  Ok (one_fate ∷ [])
 
 -- An element of the list: an integer or a text (this project's own).
 abbrev pub run : Reader (List Fate)

@@ -7,12 +7,13 @@ use Rattle.std.specs.Str.Parse.{digits_value}
 use Rattle.hex.specs.Hex.{decode_of}
 use Rattle.ep_base.specs.Air.Fates.{Way, Passes, Loses, Bursts, Leaves, Fate}
 use Rattle.ep_base.specs.Cards.Apdu.{same_bytes}
-use Rattle.ep_base.specs.Streams.Words.{◌>>=◌, cut}
+use Rattle.ep_base.specs.Streams.Words.{◌>>=◌, split_word}
+use Rattle.ep_base.specs.declared.limits.TheConstants.{LAST_START}
 use Rattle.doc_table.specs.Read.{is_within, sized}
 
 -- 1 to 4 decimal digits of a number that is at most 4095 (this project's own).
 abbrev pub is_start : List ℕ → Bool
-is_start digits = is_within 1 4 (length digits) && (all_ascii_digits digits && nat_le (digits_value 10 digits) 4095)
+is_start digits = is_within 1 4 (length digits) && (all_ascii_digits digits && nat_le (digits_value 10 digits) LAST_START)
 
 -- The place in a frame at which a burst starts (this project's own).
 abbrev pub start_spelled : List ℕ → Option ℕ
@@ -49,17 +50,17 @@ burst_spelled token = do
   Some (Bursts start mask)
 
 -- What becomes of one frame: a dash where it passes, x where it is lost, v where the cards leave, or a burst (this project's own).
-abbrev pub leg_spelled : List ℕ → Option Way
-leg_spelled token =
+abbrev pub way_of_text : List ℕ → Option Way
+way_of_text token =
     if same_bytes token (codes "-") then Some Passes
     else (if same_bytes token (codes "x") then Some Loses
     else (if same_bytes token (codes "v") then Some Leaves
     else burst_spelled token))
 
 -- What becomes of the frames of one exchange: that of the reader's frame, one space, and that of the answer (this project's own).
-unfoldable pub passage_spelled : List ℕ → Option Fate
-passage_spelled text = do
-  parts ← cut text
-  down ← leg_spelled parts.0
-  up ← leg_spelled parts.1
+unfoldable pub fate_of_text : List ℕ → Option Fate
+fate_of_text text = do
+  parts ← split_word text
+  down ← way_of_text parts.0
+  up ← way_of_text parts.1
   Some (record { down = down; up = up })

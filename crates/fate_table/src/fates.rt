@@ -2,7 +2,7 @@
 ghost use Rattle.std.specs.Prelude.{◌≡◌, ◌+◌, ◌≤◌, length, All, IfOk};
 ghost use Rattle.toml.specs.View.{view};
 ghost use Rattle.ep_base.specs.Air.Fates.{AreFates};
-ghost use Rattle.rf_field.specs.Meaning.{IsRun, passages, run_of};
+ghost use Rattle.rf_field.specs.Meaning.{IsRun, exchange_fates, run_of};
 ghost use Rattle.doc_table.specs.Read.{Gives, GivesIfRoom};
 ghost use Rattle.doc_table.specs.Section.{place};
 ghost use Rattle.fate_table.specs.Fates.{fates_at, run, told_run};
@@ -19,9 +19,9 @@ use toml::Value;
 /// Errors: the first fault of the key, and `NoMemory`.
 pub fn fates_of(alloc: Global, section: &Section) -> Result<Vec<FateRun>, TableEnd>
     requires { length section.now.path.now + 55 ≤ 96 }
-    ensures value { GivesIfRoom (λ v. passages v.items) result (fates_at (place section.now)) }
+    ensures value { GivesIfRoom (λ v. exchange_fates v.items) result (fates_at (place section.now)) }
     ensures runs { IfOk result (λ v. All IsRun v.items) }
-    ensures bursts { IfOk result (λ v. AreFates (passages v.items)) }
+    ensures bursts { IfOk result (λ v. AreFates (exchange_fates v.items)) }
 {
     section.defaulted(alloc, "fates", &FateList, Vec::new(alloc))
 }

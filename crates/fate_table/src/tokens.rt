@@ -2,19 +2,17 @@
 ghost use Rattle.std.specs.Prelude.{◌≡◌, ◌<◌, ◌≤◌, ◌^◌, option_map, IfSome};
 ghost use Rattle.std.specs.Str.{all_ascii_digits};
 ghost use Rattle.rf_field.specs.Meaning.{way_of, fate_of};
-ghost use Rattle.fate_table.specs.Tokens.{after_letter, burst_spelled, cut_at_colon, leg_spelled, mask_spelled, passage_spelled, start_spelled};
+ghost use Rattle.fate_table.specs.Tokens.{after_letter, burst_spelled, cut_at_colon, way_of_text, mask_spelled, fate_of_text, start_spelled};
 
 use doc_table::sized;
+use ep_base::LAST_START;
 use rf_field::{Burst, Fate, Way};
-
-// The last place at which a burst starts.
-const LAST_START: u32 = 4095;
 
 /// What becomes of the frames of one exchange: two tokens with one space between, first that of the reader's frame.
 /// `None` where the text has another form.
-#[tactic(auto, unfolding(crate::specs::Tokens::passage_spelled, ep_base::specs::Streams::Words::cut))]
+#[tactic(auto, unfolding(crate::specs::Tokens::fate_of_text, ep_base::specs::Streams::Words::split_word))]
 pub(crate) fn fate_spelled(text: &str) -> Option<Fate>
-    ensures { option_map fate_of result ≡ passage_spelled text.now }
+    ensures { option_map fate_of result ≡ fate_of_text text.now }
 {
     let (first, second) = text.split_once(' ')?;
     let down = way_spelled(first)?;
@@ -24,7 +22,7 @@ pub(crate) fn fate_spelled(text: &str) -> Option<Fate>
 
 // What becomes of one frame.
 fn way_spelled(token: &str) -> Option<Way>
-    ensures { option_map way_of result ≡ leg_spelled token.now }
+    ensures { option_map way_of result ≡ way_of_text token.now }
 {
     match token {
         "-" => Some(Way::Pass),

@@ -1,3 +1,4 @@
+pub mod Event
 pub mod Kernels
 pub mod Outcome
 pub mod Scripts

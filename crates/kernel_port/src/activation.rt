@@ -2,7 +2,7 @@
 ghost use Rattle.std.specs.Prelude.{◌≡◌};
 
 use arrayvec::ArrayVec;
-use ep_base::Buf;
+use ep_base::{Buf, DATA};
 use pre_processing::Indicators;
 use std::marker::Model;
 
@@ -20,13 +20,13 @@ pub struct Activation {
     /// The Combination's copy of the Terminal Transaction Qualifiers, if it has them.
     pub ttq: Option<[u8; 4]>,
     /// The data of the answer to the final SELECT.
-    pub fci: Buf<256>,
+    pub fci: Buf<DATA>,
 }
 
 impl Model for Activation {
-    ghost use Rattle.ep_rules.specs.EntryPoint.Event.{Activation as Given};
+    ghost use Rattle.ep_rules.specs.EntryPoint.Event.{Activation as ActivationData};
 
-    ghost Value = { Given };
+    ghost Value = { ActivationData };
 
     ghost view = { λ a. record {
       kernel = a.kernel;

@@ -17,7 +17,8 @@ pub enum KernelStep {
 
 /// Kernels. At most one of them is open at a time.
 pub trait Kernels {
-    ghost use Rattle.kernel_port.specs.Kernels.{move_of, is_send, CountsFall};
+    ghost use Rattle.ep_rules.specs.EntryPoint.KernelCounts.{CountsFall};
+    ghost use Rattle.kernel_port.specs.Kernels.{move_of, is_send};
 
     /// What the kernels hold, in plain data.
     ghost State: { Type 0 };

@@ -1,7 +1,7 @@
 //! Kernels that follow scripts.
 ghost use Rattle.std.specs.Prelude.{◌≡◌, ◌==◌, None, position, drop};
 ghost use Rattle.std.specs.Option.{option_copied};
-ghost use Rattle.ep_rules.specs.EntryPoint.Kernel.{script_for, without_script, begun, goes_on, answered, running_step};
+ghost use Rattle.ep_rules.specs.EntryPoint.Kernel.{script_for, without_script, begun, next_step, answered, running_step};
 ghost use Rattle.kernel_port.specs.Kernels.{move_of};
 ghost use Rattle.kernel_port.specs.Outcome.{verdict_of};
 
@@ -146,7 +146,7 @@ fn run_script(script: Option<Script>) -> Option<Running>
 
 // The step after those that were sent, or the outcome.
 fn go_on(steps: Vec<Step>, sent: usize, outcome: Outcome) -> (KernelStep, Option<Running>)
-    ensures { (move_of result.0, result.1) ≡ goes_on (verdict_of outcome) (drop sent steps.items) }
+    ensures { (move_of result.0, result.1) ≡ next_step (verdict_of outcome) (drop sent steps.items) }
 {
     match steps.get(sent) {
         None => (KernelStep::Done(outcome), None),

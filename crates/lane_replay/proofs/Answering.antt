@@ -6,7 +6,7 @@ use Rattle.ep_base.specs.Air.Heard.{Ask, Heard}
 use Rattle.ep_claim.specs.Lanes.ReplayRun.{Mismatch, Replaying, at_lane, compared, failing, next_line, same_shown, sends_unless, took}
 use Rattle.ep_claim.specs.Text.TraceLine.{Shown, TraceLine}
 use Rattle.lane_replay.specs.Turned.{lines_left}
-use Rattle.ep_claim.specs.Lanes.WholeReplay.{answered}
+use Rattle.ep_claim.specs.Lanes.WholeReplay.{compared_at}
 
 -- a line is taken with each answer, and without one the trace has failed
 abbrev pub AnswerIs : Replaying → Option Heard × Replaying → Type 0
@@ -27,9 +27,9 @@ module _ (got : Shown) (s : Replaying) where
   by_failure None well = by_line (next_line s) refl well
   by_failure (Some m) failed = ap is_some failed
 
-pub answer_is : (lane : ℕ) (ask : Ask) (s : Replaying) → AnswerIs s (answered lane ask s)
+pub answer_is : (lane : ℕ) (ask : Ask) (s : Replaying) → AnswerIs s (compared_at lane ask s)
 answer_is lane ask s =
     by_failure (record { lane = lane; wave = ask.wave; frame = ask.bytes; wait = ask.wait }) (at_lane lane s) s.failure refl
 
-pub answer_of : (lane : ℕ) (ask : Ask) (s : Replaying) (a : Option Heard × Replaying) → answered lane ask s ≡ a → AnswerIs s a
+pub answer_of : (lane : ℕ) (ask : Ask) (s : Replaying) (a : Option Heard × Replaying) → compared_at lane ask s ≡ a → AnswerIs s a
 answer_of lane ask s a e = subst (λ (a : Option Heard × Replaying). AnswerIs s a) e (answer_is lane ask s)

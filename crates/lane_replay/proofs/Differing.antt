@@ -5,9 +5,9 @@ use Rattle.ep_base.specs.Air.Heard.{Ask, Heard}
 use Rattle.ep_claim.specs.Lanes.Steps.{times}
 use Rattle.ep_claim.specs.Lanes.ReplayRun.{Mismatch, Replaying, at_lane, compared, ends_unless, failing, left_over, next_line, same_shown, sends_unless, took}
 use Rattle.ep_claim.specs.Text.TraceLine.{Shown, TraceLine}
-use Rattle.lane_report.proofs.Closing.{some_same}
+use Rattle.lane_jobs.proofs.Results.{some_same}
 use Rattle.lane_replay.specs.Stopping.{MismatchesDiffer}
-use Rattle.ep_claim.specs.Lanes.WholeReplay.{LaneReplay, answered, opened_replay, replay_after, replay_step}
+use Rattle.ep_claim.specs.Lanes.WholeReplay.{LaneReplay, compared_at, opened_replay, replay_after, replay_step}
 use Rattle.lane_replay.proofs.Matching.{shown_self}
 use Rattle.lane_replay.proofs.Stepping.{by_step}
 
@@ -55,7 +55,7 @@ module _ (s : Replaying) (apart : Apart s.failure) where
   by_end None = by_left (next_line s)
   by_end (Some m) = apart
 
-answer_apart : (lane : ℕ) (ask : Ask) (s : Replaying) (a : Option Heard × Replaying) → answered lane ask s ≡ a → Apart s.failure → ApartAfter a
+answer_apart : (lane : ℕ) (ask : Ask) (s : Replaying) (a : Option Heard × Replaying) → compared_at lane ask s ≡ a → Apart s.failure → ApartAfter a
 answer_apart lane ask s a e apart =
     subst (λ (x : Option Heard × Replaying). ApartAfter x) e
     (by_failure (record { lane = lane; wave = ask.wave; frame = ask.bytes; wait = ask.wait }) (at_lane lane s) apart s.failure)

@@ -6,11 +6,11 @@ use Rattle.ep_base.specs.Streams.Io.{AppendsPrefix}
 use Rattle.ep_claim.specs.Lanes.ReplayRun.{Mismatch, Replaying, ends_unless, finishes, left_over, next_line}
 use Rattle.ep_rules.specs.EntryPoint.Talk.{Talk}
 use Rattle.ep_claim.specs.Text.TraceLine.{TraceLine}
-use Rattle.lane_report.proofs.Appending.{prefix_front, wrote_since}
+use Rattle.lane_jobs.proofs.Appending.{prefix_front, wrote_since}
 use Rattle.lane_replay.specs.Made.{EndCut, EndShown, TurnsCut, TurnsMade}
 use Rattle.lane_replay.specs.Replayed.{LanesOpened, Replayed, ReplayedPart}
 use Rattle.lane_replay.specs.Shows.{ReplayState, all_talks, talks_of}
-use Rattle.ep_claim.specs.Lanes.WholeReplay.{LaneReplay, first_mismatch, opened_replay, opening_text, replay_after}
+use Rattle.ep_claim.specs.Lanes.WholeReplay.{LaneReplay, first_mismatch, opened_replay, replay_opening, replay_after}
 use Rattle.lane_replay.proofs.Stopping.{replays_stop_law, texts_grow_law}
 
 -- The end holds a failure exactly where it isn't well.
@@ -70,7 +70,7 @@ module _ (settings : Config) (fsdi : ℕ) (turns : List ℕ) (before opened : Re
 
 -- Where the lanes weren't all opened.
 pub replay_unopened : (settings : Config) (fsdi : ℕ) (turns : List ℕ) (before : ReplayState) (written : Option (List ℕ))
-    → AppendsPrefix before.written written (opening_text fsdi 1 (all_talks settings before.works)) → ReplayedPart settings fsdi turns before written
+    → AppendsPrefix before.written written (replay_opening fsdi 1 (all_talks settings before.works)) → ReplayedPart settings fsdi turns before written
 replay_unopened settings fsdi turns before written part =
     let lines = before.trace.lines in
     let talks = all_talks settings before.works in
@@ -78,10 +78,10 @@ replay_unopened settings fsdi turns before written part =
     let grows = texts_grow_law fsdi turns lines talks 0 many in
     let all : 0 + many ≡ many = omega arith in
     let last = replay_after fsdi turns lines talks many in
-    let longer : last.text ≡ opening_text fsdi 1 talks ++ grows.0 =
+    let longer : last.text ≡ replay_opening fsdi 1 talks ++ grows.0 =
     ap (λ k. (replay_after fsdi turns lines talks k).text) (sym all) ∙ grows.1 in (
       first_mismatch last,
       last.text,
       record { exchanges = many; stopped = replays_stop_law fsdi turns lines talks; mismatch_is = refl; text_is = refl },
-      subst (λ t. AppendsPrefix before.written written t) (sym longer) (prefix_front before.written written (opening_text fsdi 1 talks) grows.0 part),
+      subst (λ t. AppendsPrefix before.written written t) (sym longer) (prefix_front before.written written (replay_opening fsdi 1 talks) grows.0 part),
     )

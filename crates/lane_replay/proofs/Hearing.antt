@@ -9,20 +9,20 @@ use Rattle.ep_base.specs.Streams.Io.{AppendsPrefix}
 use Rattle.ep_rules.specs.EntryPoint.Kernel.{Scripted, scripted}
 use Rattle.ep_base.specs.Air.Medium.{told, AfterReset, ExchangesBy, Exchanges}
 use Rattle.ep_claim.specs.Lanes.ReplayRun.{Replaying, at_lane, replay}
-use Rattle.ep_rules.specs.EntryPoint.Event.{Said}
+use Rattle.ep_rules.specs.EntryPoint.Event.{Event as EventData}
 use Rattle.ep_claim.specs.Text.WrittenText.{event_lines}
 use Rattle.ep_claim.specs.Lanes.Standing.{Standing, asked_by, events_of, after_hearing}
-use Rattle.ep_claim.specs.Lanes.LaneText.{added}
+use Rattle.ep_claim.specs.Lanes.LaneText.{added_events}
 use Rattle.ep_lanes.specs.Lanes.{Held, LaneHeld, OpenTransaction, lane_of}
 use Rattle.ep_lanes.specs.declared.exchange.Turned.{Turned}
 use Rattle.ep_lanes.proofs.Standing.{asks_then}
-use Rattle.lane_report.specs.Works.{LaneWork}
-use Rattle.lane_report.proofs.Appending.{whole_next, part_next, part_front}
-use Rattle.lane_report.proofs.Closing.{some_same}
-use Rattle.ep_claim.specs.Lanes.ReplayText.{Piece, Waiting, goes_on, heard_piece}
+use Rattle.lane_jobs.specs.Works.{LaneWork}
+use Rattle.lane_jobs.proofs.Appending.{whole_next, part_next, part_front}
+use Rattle.lane_jobs.proofs.Results.{some_same}
+use Rattle.ep_claim.specs.Lanes.ReplayText.{ReplayPiece, Waiting, replay_goes_on, heard_piece}
 use Rattle.lane_replay.specs.Shows.{ShowsWaiting}
 use Rattle.lane_replay.specs.Turned.{HeardLine, HeardPart, IsAfter, LaneHeard, LaneDiffers, OtherLine, Wrote, lines_left}
-use Rattle.ep_claim.specs.Lanes.WholeReplay.{answered}
+use Rattle.ep_claim.specs.Lanes.WholeReplay.{compared_at}
 use Rattle.lane_replay.proofs.Answering.{answer_of}
 
 -- What a trace answers where it may answer so: a reset does nothing.
@@ -48,7 +48,7 @@ asks_is settings fsdi held work w shows t was =
     some_same t.asks w.asks (sym (asks_then scripted w.talk fsdi w.standing held t was shows.stands) ∙ shows.asks)
 
 -- A line is taken with each exchange.
-pub line_fewer : (lane : ℕ) (before after : Held Scripted) (s t : Replaying) (turned : Turned) (said : List Said) → HeardLine lane before s turned said after t
+pub line_fewer : (lane : ℕ) (before after : Held Scripted) (s t : Replaying) (turned : Turned) (said : List EventData) → HeardLine lane before s turned said after t
     → lines_left t < lines_left s
 line_fewer lane before after s t turned said turn =
     (answer_of lane turn.made.asked s _ (answers_so turn.made.asked (at_lane lane s) t (Some turn.makes.given) turn.makes.exchange)).1
@@ -68,7 +68,7 @@ module _ (settings : Config) (fsdi lane : ℕ) (work : LaneWork) (w : Waiting) (
   }
 
   -- it asked what the line says
-  module _ (before after : Held Scripted) (turned : Turned) (said : List Said) (turn : HeardLine lane before s turned said after t)
+  module _ (before after : Held Scripted) (turned : Turned) (said : List EventData) (turn : HeardLine lane before s turned said after t)
       (shows : ShowsWaiting settings fsdi (lane_of before lane) work w) where
     abbrev heard : Heard
     heard = turn.made.heard
@@ -79,7 +79,7 @@ module _ (settings : Config) (fsdi lane : ℕ) (work : LaneWork) (w : Waiting) (
     given_is : turn.makes.given ≡ heard
     given_is = ap (λ (r : Unit {0} × Heard). r.1) turn.makes.heard
 
-    line_is : answered lane w.asks s ≡ (Some heard, t)
+    line_is : compared_at lane w.asks s ≡ (Some heard, t)
     line_is =
         answers_so w.asks (at_lane lane s) t (Some heard)
         (subst (λ (h : Heard). Exchanges (told replay) (at_lane lane s) w.asks (Some h) t) given_is
@@ -97,18 +97,18 @@ module _ (settings : Config) (fsdi lane : ℕ) (work : LaneWork) (w : Waiting) (
       left = shows.left;
     }
 
-    said_is : said ≡ added w.talk w.standing then_standing
+    said_is : said ≡ added_events w.talk w.standing then_standing
     said_is =
         sym (drop-append_seam (events_of w.talk w.standing) said)
         ∙ ap (λ l. drop (length (events_of w.talk w.standing)) l) (turn.makes.events w.talk fsdi w.standing shows.stands)
 
     -- what follows the lines of the events
-    abbrev pub more : Piece
-    more = goes_on fsdi lane w then_standing (asked_by fsdi then_standing.doing)
+    abbrev pub more : ReplayPiece
+    more = replay_goes_on fsdi lane w then_standing (asked_by fsdi then_standing.doing)
 
     whole_is : (n : ℕ) → n ≡ work.txn → (heard_piece fsdi lane w heard).text ≡ event_lines lane n said ++ more.text
     whole_is n e =
-        ap (λ k. event_lines lane k (added w.talk w.standing then_standing) ++ more.text) (sym (e ∙ shows.number))
+        ap (λ k. event_lines lane k (added_events w.talk w.standing then_standing) ++ more.text) (sym (e ∙ shows.number))
         ∙ ap (λ xs. event_lines lane n xs ++ more.text) (sym said_is)
 
     pub turn_heard : (n : ℕ) → n ≡ work.txn → (held : LaneHeld Scripted) (next : LaneWork) (a b c : Option (List ℕ)) → Appends a b (event_lines lane n said)

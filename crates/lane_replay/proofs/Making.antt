@@ -6,8 +6,8 @@ use Rattle.ep_claim.specs.Lanes.ReplayRun.{Mismatch}
 use Rattle.ep_claim.specs.Lanes.Order.{Order, next_turn}
 use Rattle.ep_lanes.specs.Lanes.{lane_of, is_live, count_of, next_of, lane_in, next_lane}
 use Rattle.ep_lanes.proofs.Ordering.{same_turn}
-use Rattle.lane_report.specs.Works.{work_of}
-use Rattle.lane_report.proofs.Appending.{prefix_front}
+use Rattle.lane_jobs.specs.Works.{work_of}
+use Rattle.lane_jobs.proofs.Appending.{prefix_front}
 use Rattle.lane_replay.specs.Made.{EndCut, EndShown, TurnsCut, TurnsMade}
 use Rattle.lane_replay.specs.Shows.{ReplayState, Shows}
 use Rattle.lane_replay.specs.Turned.{TurnCut, TurnTaken, lines_left}
@@ -24,10 +24,10 @@ none_next (Some t) e = let never : Some t.0 ≡ None = e in cc
 shown_over : (settings : Config) (fsdi : ℕ) (start : Option (List ℕ)) (s : ReplayState) (r : LaneReplay) (count : ℕ)
     → Shows settings fsdi start s r → count_of s.lanes ≡ count → next_lane s.lanes ≡ None → HasStopped count r
 shown_over settings fsdi start s r count shows size none =
-    let same = same_turn (is_live s.lanes) (replays.is_live r)
+    let same = same_turn (is_live s.lanes) (replays.is_waiting r)
     (λ n. live_shown settings fsdi (lane_of s.lanes n) (work_of s.works n) (r.lanes n) (shows.each n)) count r.order in
     let next : next_turn (is_live s.lanes) (count_of s.lanes) s.lanes.order ≡ None = none_next (next_of s.lanes) none in
-    ap (λ (f : Option Mismatch). turn_unless f (next_turn (replays.is_live r) count r.order)) shows.well
+    ap (λ (f : Option Mismatch). turn_unless f (next_turn (replays.is_waiting r) count r.order)) shows.well
     ∙ (sym same
     ∙ (ap (λ k. next_turn (is_live s.lanes) k r.order) (sym size)
     ∙ (ap (λ (o : Order). next_turn (is_live s.lanes) (count_of s.lanes) o) (sym shows.order) ∙ next)))

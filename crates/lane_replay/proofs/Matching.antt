@@ -16,18 +16,19 @@ use Rattle.ep_base.specs.declared.air.Wave.{Wave}
 use Rattle.ep_base.specs.declared.air.Wave.TheVariants.{AShort, ABare, A, B}
 use Rattle.ep_claim.specs.Lanes.Exchanges.{Lane, field_answers, or_silence}
 use Rattle.ep_claim.specs.Lanes.Standing.{Standing, asked_by, events_of, started}
-use Rattle.ep_claim.specs.Lanes.LaneText.{Going, Job, added, heard_lane, traced_as}
+use Rattle.ep_claim.specs.Lanes.LaneText.{Going, Job, added_events, heard_lane, traced_as}
 use Rattle.ep_claim.specs.Lanes.LaneText as runs
 use Rattle.ep_claim.specs.Lanes.Order.{Order, next_turn}
 use Rattle.ep_claim.specs.Lanes.WholeRun.{Run, is_live, open_probe, opened_run, run_after, run_step, takes_turn}
 use Rattle.ep_claim.specs.Lanes.WholeRun as whole
 use Rattle.ep_lanes.proofs.Ordering.{same_turn}
-use Rattle.scenario.specs.Scene.{Work}
-use Rattle.lane_report.specs.Works.{all_jobs, job_of, talk_in}
-use Rattle.ep_claim.specs.Lanes.ReplayText.{Piece, Waiting, heard_piece, opens, opens_by, goes_on}
-use Rattle.lane_replay.specs.OwnTrace.{OwnTraceMatches, SameTalks, line_at, line_by, line_in, lines_of, said_after, said_at, said_by, said_first, said_in, said_of, said_on, said_opening, talks_in}
+use Rattle.scenario.specs.Jobs.{job_of, talk_in}
+use Rattle.scenario.specs.Scenario.{Work}
+use Rattle.lane_jobs.specs.Works.{all_jobs}
+use Rattle.ep_claim.specs.Lanes.ReplayText.{ReplayPiece, Waiting, heard_piece, replay_opens, replay_opens_by, replay_goes_on}
+use Rattle.lane_replay.specs.OwnTrace.{OwnTraceMatches, SameTalks, line_at, line_by, line_in, lines_of, said_after, said_at, said_by, said_first, said_in, said_of, said_on, said_opening, talks_of_lanes}
 use Rattle.lane_replay.specs.Shows.{talks_of}
-use Rattle.ep_claim.specs.Lanes.WholeReplay.{LaneReplay, answered, first_mismatch, hears, opened_replay, opening_lanes, opening_text, replay_after, replay_step, turn_in, turn_unless}
+use Rattle.ep_claim.specs.Lanes.WholeReplay.{LaneReplay, compared_at, replay_hears, opened_replay, replay_lanes, replay_opening, replay_after, replay_step, turn_in, turn_unless}
 use Rattle.ep_claim.specs.Lanes.WholeReplay as replays
 
 -- ---- what is the same
@@ -71,7 +72,7 @@ module _ {X : Type 0} (xs : List X) (i : ℕ) where
 
 -- what is asked is what the next line says
 answers : (lane : ℕ) (ask : Ask) (heard : Heard) (s : Replaying) (more : List TraceLine) → s.failure ≡ None
-    → drop s.taken s.lines ≡ traced_as lane ask heard ∷ more → answered lane ask s ≡ (Some heard, took (at_lane lane s))
+    → drop s.taken s.lines ≡ traced_as lane ask heard ∷ more → compared_at lane ask s ≡ (Some heard, took (at_lane lane s))
 answers lane ask heard s more well next =
     let got : Shown = record { lane = lane; wave = ask.wave; frame = ask.bytes; wait = ask.wait } in
     let at = at_lane lane s in
@@ -112,53 +113,53 @@ record Follows (fsdi : ℕ) (run : Run (Unit {0})) (r : LaneReplay) (left : List
 module _ (traced : Bool) (fsdi : ℕ) where
   -- ---- lanes that are opened
 
-  tied_by : (lane txn : ℕ) (j : Job) (js : List Job) (rest : runs.Piece) (other : Piece) (a : Option Ask) → asked_by fsdi (started j.talk).doing ≡ a
-      → Tied fsdi rest.going other.waiting → Tied fsdi (runs.opens_by lane txn j js rest a).going (opens_by lane txn j.talk (talks js) other a).waiting
+  tied_by : (lane txn : ℕ) (j : Job) (js : List Job) (rest : runs.Piece) (other : ReplayPiece) (a : Option Ask) → asked_by fsdi (started j.talk).doing ≡ a
+      → Tied fsdi rest.going other.waiting → Tied fsdi (runs.opens_by lane txn j js rest a).going (replay_opens_by lane txn j.talk (talks js) other a).waiting
   tied_by lane txn j js rest other (Some ask) e h = (ask, e, refl)
   tied_by lane txn j js rest other None e h = h
 
-  opened_tied : (js : List Job) (lane txn : ℕ) → Tied fsdi (runs.opens fsdi lane txn js).going (opens fsdi lane txn (talks js)).waiting
+  opened_tied : (js : List Job) (lane txn : ℕ) → Tied fsdi (runs.opens fsdi lane txn js).going (replay_opens fsdi lane txn (talks js)).waiting
   opened_tied [] lane txn = refl
   opened_tied (j ∷ js) lane txn =
-      tied_by lane txn j js (runs.opens fsdi lane (txn + 1) js) (opens fsdi lane (txn + 1) (talks js)) (asked_by fsdi (started j.talk).doing) refl
+      tied_by lane txn j js (runs.opens fsdi lane (txn + 1) js) (replay_opens fsdi lane (txn + 1) (talks js)) (asked_by fsdi (started j.talk).doing) refl
       (opened_tied js lane (txn + 1))
 
-  said_opened : (lane txn : ℕ) (talk : Talk) (left : List Talk) (other : Piece) (said : List ℕ) (a : Option Ask) → other.text ≡ said
-      → (opens_by lane txn talk left other a).text ≡ event_lines lane txn (events_of talk (started talk)) ++ said_after a said
+  said_opened : (lane txn : ℕ) (talk : Talk) (left : List Talk) (other : ReplayPiece) (said : List ℕ) (a : Option Ask) → other.text ≡ said
+      → (replay_opens_by lane txn talk left other a).text ≡ event_lines lane txn (events_of talk (started talk)) ++ said_after a said
   said_opened lane txn talk left other said (Some ask) e = sym (append-nil (event_lines lane txn (events_of talk (started talk))))
   said_opened lane txn talk left other said None e = ap (λ l. event_lines lane txn (events_of talk (started talk)) ++ l) e
 
-  opened_said : (js : List Job) (lane txn : ℕ) → (opens fsdi lane txn (talks js)).text ≡ said_opening fsdi lane txn js
+  opened_said : (js : List Job) (lane txn : ℕ) → (replay_opens fsdi lane txn (talks js)).text ≡ said_opening fsdi lane txn js
   opened_said [] lane txn = refl
   opened_said (j ∷ js) lane txn =
-      said_opened lane txn j.talk (talks js) (opens fsdi lane (txn + 1) (talks js)) (said_opening fsdi lane (txn + 1) js)
+      said_opened lane txn j.talk (talks js) (replay_opens fsdi lane (txn + 1) (talks js)) (said_opening fsdi lane (txn + 1) js)
       (asked_by fsdi (started j.talk).doing) (opened_said js lane (txn + 1))
 
-  all_tied : (lanes : List (List Job)) (first n : ℕ) → Tied fsdi (whole.opening_lanes fsdi first lanes n) (opening_lanes fsdi first (talks_in lanes) n)
+  all_tied : (lanes : List (List Job)) (first n : ℕ) → Tied fsdi (whole.opening_lanes fsdi first lanes n) (replay_lanes fsdi first (talks_of_lanes lanes) n)
   all_tied [] first n = refl
   all_tied (js ∷ rest) first n =
       elim (n == first) as (λ (b : Bool).
       Tied fsdi (if b then (runs.opens fsdi first 1 js).going else whole.opening_lanes fsdi (first + 1) rest n)
-      (if b then (opens fsdi first 1 (talks js)).waiting else opening_lanes fsdi (first + 1) (talks_in rest) n)) [
+      (if b then (replay_opens fsdi first 1 (talks js)).waiting else replay_lanes fsdi (first + 1) (talks_of_lanes rest) n)) [
         | true ↦ opened_tied js first 1
         | false ↦ all_tied rest (first + 1) n
       ]
 
-  all_said : (lanes : List (List Job)) (first : ℕ) → opening_text fsdi first (talks_in lanes) ≡ said_first fsdi first lanes
+  all_said : (lanes : List (List Job)) (first : ℕ) → replay_opening fsdi first (talks_of_lanes lanes) ≡ said_first fsdi first lanes
   all_said [] first = refl
   all_said (js ∷ rest) first =
-      ap (λ l. l ++ opening_text fsdi (first + 1) (talks_in rest)) (opened_said js first 1)
+      ap (λ l. l ++ replay_opening fsdi (first + 1) (talks_of_lanes rest)) (opened_said js first 1)
       ∙ ap (λ l. said_opening fsdi first 1 js ++ l) (all_said rest (first + 1))
 
   -- ---- an exchange
 
   on_tied : (lane : ℕ) (g : Going) (ask : Ask) (l : Lane) (a : Option Ask) → asked_by fsdi l.standing.doing ≡ a
-      → Tied fsdi (runs.goes_on fsdi lane g l a).going (goes_on fsdi lane (waits g ask) l.standing a).waiting
+      → Tied fsdi (runs.goes_on fsdi lane g l a).going (replay_goes_on fsdi lane (waits g ask) l.standing a).waiting
   on_tied lane g ask l (Some next) e = (next, e, refl)
   on_tied lane g ask l None e = opened_tied g.left lane (g.txn + 1)
 
   on_said : (lane : ℕ) (g : Going) (ask : Ask) (s : Standing) (a : Option Ask)
-      → (goes_on fsdi lane (waits g ask) s a).text ≡ said_after a (said_opening fsdi lane (g.txn + 1) g.left)
+      → (replay_goes_on fsdi lane (waits g ask) s a).text ≡ said_after a (said_opening fsdi lane (g.txn + 1) g.left)
   on_said lane g ask s (Some next) = refl
   on_said lane g ask s None = opened_said g.left lane (g.txn + 1)
 
@@ -179,7 +180,7 @@ module _ (traced : Bool) (fsdi : ℕ) where
       answer = (Some heard, took (at_lane n r.trace))
 
       exchange : Follows fsdi run r (traced_as n ask heard ∷ more) text
-          → Follows fsdi (whole.asks traced open_probe fsdi n o g (Some ask) run) (hears fsdi n o (waits g ask) answer r) more
+          → Follows fsdi (whole.makes_exchange traced open_probe fsdi n o g (Some ask) run) (replay_hears fsdi n o (waits g ask) answer r) more
           (text ++ said_on fsdi n g then_lane)
       exchange f = record {
         each = λ k.
@@ -194,32 +195,32 @@ module _ (traced : Bool) (fsdi : ℕ) where
         rest = (next_at r.trace.lines r.trace.taken (traced_as n ask heard) more f.rest).1;
         said =
             ap (λ t. t ++ (heard_piece fsdi n (waits g ask) heard).text) f.said
-            ∙ ap (λ x. text ++ (event_lines n g.txn (added g.talk g.lane.standing then_lane.standing) ++ x))
+            ∙ ap (λ x. text ++ (event_lines n g.txn (added_events g.talk g.lane.standing then_lane.standing) ++ x))
             (on_said n g ask then_lane.standing (asked_by fsdi then_lane.standing.doing));
       }
 
       by_answer : r.lanes n ≡ Some (waits g ask) → Follows fsdi run r (traced_as n ask heard ∷ more) text
-          → Follows fsdi (whole.asks traced open_probe fsdi n o g (Some ask) run) (replays.turn_of fsdi n o (r.lanes n) r) more
+          → Follows fsdi (whole.makes_exchange traced open_probe fsdi n o g (Some ask) run) (replays.replay_turn_of fsdi n o (r.lanes n) r) more
           (text ++ said_on fsdi n g then_lane)
       by_answer is f =
           subst (λ (v : Option Waiting).
-          Follows fsdi (whole.asks traced open_probe fsdi n o g (Some ask) run) (replays.turn_of fsdi n o v r) more (text ++ said_on fsdi n g then_lane))
+          Follows fsdi (whole.makes_exchange traced open_probe fsdi n o g (Some ask) run) (replays.replay_turn_of fsdi n o v r) more (text ++ said_on fsdi n g then_lane))
           (sym is)
           (subst (λ (a : Option Heard × Replaying).
-          Follows fsdi (whole.asks traced open_probe fsdi n o g (Some ask) run) (hears fsdi n o (waits g ask) a r) more (text ++ said_on fsdi n g then_lane))
+          Follows fsdi (whole.makes_exchange traced open_probe fsdi n o g (Some ask) run) (replay_hears fsdi n o (waits g ask) a r) more (text ++ said_on fsdi n g then_lane))
           (sym (answers n ask heard r.trace more f.well f.rest)) (exchange f))
 
     by_lane : (n : ℕ) (o : Order) (l : Option Going) → Tied fsdi l (r.lanes n) → Follows fsdi run r (line_in fsdi n l ++ more) text
-        → Follows fsdi (whole.turn_of traced open_probe fsdi n o l run) (replays.turn_of fsdi n o (r.lanes n) r) more (text ++ said_in fsdi n l)
+        → Follows fsdi (whole.turn_of traced open_probe fsdi n o l run) (replays.replay_turn_of fsdi n o (r.lanes n) r) more (text ++ said_in fsdi n l)
     by_lane n o None tie f =
-        subst (λ (v : Option Waiting). Follows fsdi run (replays.turn_of fsdi n o v r) more (text ++ [])) (sym tie) (nothing f)
+        subst (λ (v : Option Waiting). Follows fsdi run (replays.replay_turn_of fsdi n o v r) more (text ++ [])) (sym tie) (nothing f)
     by_lane n o (Some g) tie f =
         (subst (λ (a : Option Ask). Follows fsdi run r (line_by n g a ++ more) text
-        → Follows fsdi (whole.asks traced open_probe fsdi n o g a run) (replays.turn_of fsdi n o (r.lanes n) r) more (text ++ said_by fsdi n g a))
+        → Follows fsdi (whole.makes_exchange traced open_probe fsdi n o g a run) (replays.replay_turn_of fsdi n o (r.lanes n) r) more (text ++ said_by fsdi n g a))
         (sym tie.1) (λ h. by_answer n o g tie.0 tie.2 h)) f
 
     by_turn : (t : Option (ℕ × Order)) → Follows fsdi run r (line_at fsdi run t ++ more) text
-        → Follows fsdi (takes_turn traced open_probe fsdi t run) (replays.takes_turn fsdi t r) more (text ++ said_at fsdi run t)
+        → Follows fsdi (takes_turn traced open_probe fsdi t run) (replays.replay_takes fsdi t r) more (text ++ said_at fsdi run t)
     by_turn None f = nothing f
     by_turn (Some (n, o)) f = by_lane n o (run.lanes n) (f.each n) f
 
@@ -227,8 +228,8 @@ module _ (traced : Bool) (fsdi : ℕ) where
   turn_same : (count : ℕ) (run : Run (Unit {0})) (r : LaneReplay) (left : List TraceLine) (text : List ℕ) → Follows fsdi run r left text
       → turn_in count r ≡ next_turn (is_live run) count run.order
   turn_same count run r left text f =
-      ap (λ (x : Option Mismatch). turn_unless x (next_turn (replays.is_live r) count r.order)) f.well
-      ∙ (same_turn (replays.is_live r) (is_live run) (λ n. tied_live fsdi (run.lanes n) (r.lanes n) (f.each n)) count r.order
+      ap (λ (x : Option Mismatch). turn_unless x (next_turn (replays.is_waiting r) count r.order)) f.well
+      ∙ (same_turn (replays.is_waiting r) (is_live run) (λ n. tied_live fsdi (run.lanes n) (r.lanes n) (f.each n)) count r.order
       ∙ ap (λ (o : Order). next_turn (is_live run) count o) f.order)
 
   module _ (count : ℕ) where
@@ -237,7 +238,7 @@ module _ (traced : Bool) (fsdi : ℕ) where
         → Follows fsdi (run_step traced open_probe fsdi count run) (replay_step fsdi count r) more
         (text ++ said_at fsdi run (next_turn (is_live run) count run.order))
     step_follows run r more text f =
-        subst (λ t. Follows fsdi (run_step traced open_probe fsdi count run) (replays.takes_turn fsdi t r) more
+        subst (λ t. Follows fsdi (run_step traced open_probe fsdi count run) (replays.replay_takes fsdi t r) more
         (text ++ said_at fsdi run (next_turn (is_live run) count run.order)))
         (sym (turn_same count run r (line_at fsdi run (next_turn (is_live run) count run.order) ++ more) text f))
         (by_turn run r more text (next_turn (is_live run) count run.order) f)
@@ -262,7 +263,7 @@ own_trace_law traced fsdi turns lanes n over =
     let lines = lines_of traced fsdi count n begun in
     let run = run_after traced open_probe fsdi turns tt lanes n in
     let text = said_first fsdi 1 lanes ++ said_of traced fsdi count n begun in
-    let first = opened_replay fsdi turns lines (talks_in lanes) in
+    let first = opened_replay fsdi turns lines (talks_of_lanes lanes) in
     let start : Follows fsdi begun first (lines ++ []) (said_first fsdi 1 lanes) = record {
       each = all_tied traced fsdi lanes 1;
       order = refl;
@@ -270,17 +271,17 @@ own_trace_law traced fsdi turns lanes n over =
       rest = sym (append-nil lines);
       said = all_said traced fsdi lanes 1;
     } in
-    let size : length (talks_in lanes) ≡ count = length-map lanes talks in
-    let last = replay_after fsdi turns lines (talks_in lanes) n in
+    let size : length (talks_of_lanes lanes) ≡ count = length-map lanes talks in
+    let last = replay_after fsdi turns lines (talks_of_lanes lanes) n in
     let end : Follows fsdi run last [] text =
     subst (λ k. Follows fsdi run (times (replay_step fsdi k) n first) [] text) (sym size)
     (steps_follow traced fsdi count n begun first [] (said_first fsdi 1 lanes) start) in
-    let ended : next_turn (is_live run) (length (talks_in lanes)) run.order ≡ None =
+    let ended : next_turn (is_live run) (length (talks_of_lanes lanes)) run.order ≡ None =
     subst (λ k. next_turn (is_live run) k run.order ≡ None) (sym size) over in
     let done = well_ended last.trace end.well (none_at last.trace.lines last.trace.taken end.rest) in
     record {
       exchanges = n;
-      stopped = turn_same traced fsdi (length (talks_in lanes)) run last [] text end ∙ ended;
+      stopped = turn_same traced fsdi (length (talks_of_lanes lanes)) run last [] text end ∙ ended;
       mismatch_is = sym (ap (λ (b : Bool × Replaying). b.1.failure) done ∙ end.well);
       text_is = sym end.said;
     }
@@ -294,4 +295,4 @@ talks_same settings (w ∷ ws) = ap (λ l. talk_in settings w ∷ l) (talks_same
 pub same_talks_law : SameTalks
 same_talks_law settings [] = refl
 same_talks_law settings (v ∷ vs) =
-    ap (λ l. l ∷ talks_in (all_jobs settings vs)) (talks_same settings v.left) ∙ ap (λ l. talks_of settings v ∷ l) (same_talks_law settings vs)
+    ap (λ l. l ∷ talks_of_lanes (all_jobs settings vs)) (talks_same settings v.left) ∙ ap (λ l. talks_of settings v ∷ l) (same_talks_law settings vs)

@@ -6,23 +6,23 @@ use Rattle.std.proofs.lemmas.List.{length-replicate, get_or-map, drop_more, drop
 use Rattle.std.proofs.lemmas.List.Elements.{All-get_or}
 use Rattle.ep_rules.specs.EntryPoint.Configuration.{Config}
 use Rattle.ep_rules.specs.EntryPoint.Kernel.{Scripted}
-use Rattle.ep_claim.specs.Lanes.ReplayRun.{Replaying, begun}
+use Rattle.ep_claim.specs.Lanes.ReplayRun.{Replaying, begun_replay}
 use Rattle.ep_lanes.specs.Lanes.{LaneHeld, Held, no_lane, new_lane, lane_of, count_of, new_lanes}
 use Rattle.ep_lanes.proofs.Numbering.{past_all}
 use Rattle.law_turns.proofs.Stepping.{choose}
-use Rattle.lane_report.specs.Works.{LaneWork, no_work, work_of}
-use Rattle.lane_report.specs.Written.{with_text}
-use Rattle.lane_report.proofs.Numbering.{work_past, item_is, work_here, work_elsewhere}
-use Rattle.lane_report.proofs.Opened.{new_at}
-use Rattle.lane_report.proofs.Places as place
-use Rattle.ep_claim.specs.Lanes.ReplayText.{opens}
+use Rattle.lane_jobs.specs.Works.{LaneWork, no_work, work_of}
+use Rattle.lane_jobs.specs.Written.{with_text}
+use Rattle.lane_jobs.proofs.Numbering.{work_past, item_is, work_here, work_elsewhere}
+use Rattle.ep_lanes.proofs.Numbering.{new_at}
+use Rattle.lane_jobs.proofs.Places as place
+use Rattle.ep_claim.specs.Lanes.ReplayText.{replay_opens}
 use Rattle.lane_replay.specs.Replayed.{IsFirst}
 use Rattle.lane_replay.specs.Shows.{Fits, IsOpened, Shows, ShowsLane, all_talks, talks_of}
-use Rattle.ep_claim.specs.Lanes.WholeReplay.{opened_replay, opening_lanes, opening_text}
+use Rattle.ep_claim.specs.Lanes.WholeReplay.{opened_replay, replay_lanes, replay_opening}
 
 -- a lane shows what these transactions of it come to once they are opened
 abbrev pub ShowsBegun : Config → (fsdi lane : ℕ) → LaneHeld Scripted → (work todo : LaneWork) → Type 0
-ShowsBegun settings fsdi lane held work todo = ShowsLane settings fsdi held work (opens fsdi lane 1 (talks_of settings todo)).waiting
+ShowsBegun settings fsdi lane held work todo = ShowsLane settings fsdi held work (replay_opens fsdi lane 1 (talks_of settings todo)).waiting
 
 -- so many lanes were opened, and the others are as they were
 pub record Opening (settings : Config) (fsdi i : ℕ) (before : Held Scripted) (todo : List LaneWork) (now : Held Scripted) (works : List LaneWork) : Type 0 where
@@ -36,58 +36,58 @@ pub record Opening (settings : Config) (fsdi i : ℕ) (before : Held Scripted) (
 -- The text of the lanes that are left begins with that of the next one.
 text_next : (settings : Config) (fsdi lane i : ℕ) (todo : List LaneWork) (w : LaneWork) → i < length todo → w ≡ work_of todo lane → lane ≡ i + 1
     → w.txn ≡ 0
-    → opening_text fsdi lane (drop i (all_talks settings todo))
-    ≡ (opens fsdi lane (w.txn + 1) (talks_of settings w)).text ++ opening_text fsdi (lane + 1) (drop (i + 1) (all_talks settings todo))
+    → replay_opening fsdi lane (drop i (all_talks settings todo))
+    ≡ (replay_opens fsdi lane (w.txn + 1) (talks_of settings w)).text ++ replay_opening fsdi (lane + 1) (drop (i + 1) (all_talks settings todo))
 text_next settings fsdi lane i todo w less is number first =
     let talks = all_talks settings todo in
-    let rest = opening_text fsdi (lane + 1) (drop (i + 1) talks) in
+    let rest = replay_opening fsdi (lane + 1) (drop (i + 1) talks) in
     let size = length-map todo (talks_of settings) in
     let one : 1 ≡ w.txn + 1 = omega (arith, first) in
     let at : lane - 1 ≡ i = omega (arith, number) in
     let here : get_or todo i no_work ≡ w =
     ap (λ k. get_or todo k no_work) (sym at) ∙ (sym (place.placed todo lane (omega (arith, number))) ∙ sym is) in
     let head : get_or talks i [] ≡ talks_of settings w = get_or-map (talks_of settings) todo i no_work [] less ∙ ap (talks_of settings) here in
-    ap (opening_text fsdi lane) (drop_more talks i [] (omega (arith, less, size)))
-    ∙ (ap (λ ts. (opens fsdi lane 1 ts).text ++ rest) head ∙ ap (λ k. (opens fsdi lane k (talks_of settings w)).text ++ rest) one)
+    ap (replay_opening fsdi lane) (drop_more talks i [] (omega (arith, less, size)))
+    ∙ (ap (λ ts. (replay_opens fsdi lane 1 ts).text ++ rest) head ∙ ap (λ k. (replay_opens fsdi lane k (talks_of settings w)).text ++ rest) one)
 
 -- nothing is left behind the last one
-pub text_none : (settings : Config) (fsdi lane i : ℕ) (todo : List LaneWork) → length todo ≤ i → opening_text fsdi lane (drop i (all_talks settings todo)) ≡ []
+pub text_none : (settings : Config) (fsdi lane i : ℕ) (todo : List LaneWork) → length todo ≤ i → replay_opening fsdi lane (drop i (all_talks settings todo)) ≡ []
 text_none settings fsdi lane i todo over =
     let size = length-map todo (talks_of settings) in
-    ap (opening_text fsdi lane) (drop_all i (all_talks settings todo) (omega (arith, over, size)))
+    ap (replay_opening fsdi lane) (drop_all i (all_talks settings todo) (omega (arith, over, size)))
 
 -- The lanes of a replay that was just opened, by their numbers.
 module _ (settings : Config) (fsdi : ℕ) where
-  low : (works : List LaneWork) (first n : ℕ) → n < first → opening_lanes fsdi first (all_talks settings works) n ≡ None
+  low : (works : List LaneWork) (first n : ℕ) → n < first → replay_lanes fsdi first (all_talks settings works) n ≡ None
   low [] first n less = refl
   low (w ∷ ws) first n less =
       choose n first
-      (λ b. (if b then (opens fsdi first 1 (talks_of settings w)).waiting else opening_lanes fsdi (first + 1) (all_talks settings ws) n) ≡ None)
+      (λ b. (if b then (replay_opens fsdi first 1 (talks_of settings w)).waiting else replay_lanes fsdi (first + 1) (all_talks settings ws) n) ≡ None)
       (λ e. absurd (omega (arith, e, less))) (λ d. low ws (first + 1) n (omega (arith, less)))
 
   opened_at : (works : List LaneWork) (first i n : ℕ) → n ≡ first + i
-      → opening_lanes fsdi first (all_talks settings works) n ≡ (opens fsdi n 1 (talks_of settings (get_or works i no_work))).waiting
+      → replay_lanes fsdi first (all_talks settings works) n ≡ (replay_opens fsdi n 1 (talks_of settings (get_or works i no_work))).waiting
   opened_at [] first zero n e = refl
   opened_at [] first (suc i) n e = refl
   opened_at (w ∷ ws) first zero n e =
       choose n first
-      (λ b. (if b then (opens fsdi first 1 (talks_of settings w)).waiting else opening_lanes fsdi (first + 1) (all_talks settings ws) n)
-      ≡ (opens fsdi n 1 (talks_of settings w)).waiting)
-      (λ x. ap (λ k. (opens fsdi k 1 (talks_of settings w)).waiting) (sym x)) (λ d. absurd (d (omega (arith, e))))
+      (λ b. (if b then (replay_opens fsdi first 1 (talks_of settings w)).waiting else replay_lanes fsdi (first + 1) (all_talks settings ws) n)
+      ≡ (replay_opens fsdi n 1 (talks_of settings w)).waiting)
+      (λ x. ap (λ k. (replay_opens fsdi k 1 (talks_of settings w)).waiting) (sym x)) (λ d. absurd (d (omega (arith, e))))
   opened_at (w ∷ ws) first (suc i) n e =
       choose n first
-      (λ b. (if b then (opens fsdi first 1 (talks_of settings w)).waiting else opening_lanes fsdi (first + 1) (all_talks settings ws) n)
-      ≡ (opens fsdi n 1 (talks_of settings (get_or ws i no_work))).waiting)
+      (λ b. (if b then (replay_opens fsdi first 1 (talks_of settings w)).waiting else replay_lanes fsdi (first + 1) (all_talks settings ws) n)
+      ≡ (replay_opens fsdi n 1 (talks_of settings (get_or ws i no_work))).waiting)
       (λ x. absurd (omega (arith, x, e))) (λ d. opened_at ws (first + 1) i n (omega (arith, e)))
 
   pub opening_waiting : (works : List LaneWork) (n : ℕ)
-      → opening_lanes fsdi 1 (all_talks settings works) n ≡ (opens fsdi n 1 (talks_of settings (work_of works n))).waiting
+      → replay_lanes fsdi 1 (all_talks settings works) n ≡ (replay_opens fsdi n 1 (talks_of settings (work_of works n))).waiting
   opening_waiting works n =
       ⊎_elim
-      (λ x. low works 1 n (omega (arith, x.1)) ∙ ap (λ (w : LaneWork). (opens fsdi n 1 (talks_of settings w)).waiting) (sym (place.none_at works n x.1)))
+      (λ x. low works 1 n (omega (arith, x.1)) ∙ ap (λ (w : LaneWork). (replay_opens fsdi n 1 (talks_of settings w)).waiting) (sym (place.none_at works n x.1)))
       (λ x. let least : 1 ≤ n = omega (arith, x.1) in
       opened_at works 1 (n - 1) n (omega (arith, least))
-      ∙ ap (λ (w : LaneWork). (opens fsdi n 1 (talks_of settings w)).waiting) (sym (place.placed works n least)))
+      ∙ ap (λ (w : LaneWork). (replay_opens fsdi n 1 (talks_of settings w)).waiting) (sym (place.placed works n least)))
       (eqb_tells n 0)
 
 module _ (settings : Config) (fsdi : ℕ) (before : Held Scripted) (todo : List LaneWork) where
@@ -126,14 +126,14 @@ module _ (settings : Config) (fsdi : ℕ) (before : Held Scripted) (todo : List 
         subst IsFirst (sym (next_work d ∙ here)) (All-get_or IsFirst todo i no_work less all)
 
     -- its text is the first of those that are left
-    pub next_text : (d : LaneWork) → opening_text fsdi lane (drop i (all_talks settings todo))
-        ≡ (opens fsdi lane ((get_or works i d).txn + 1) (talks_of settings (get_or works i d))).text
-        ++ opening_text fsdi (lane + 1) (drop (i + 1) (all_talks settings todo))
+    pub next_text : (d : LaneWork) → replay_opening fsdi lane (drop i (all_talks settings todo))
+        ≡ (replay_opens fsdi lane ((get_or works i d).txn + 1) (talks_of settings (get_or works i d))).text
+        ++ replay_opening fsdi (lane + 1) (drop (i + 1) (all_talks settings todo))
     next_text d = text_next settings fsdi lane i todo (get_or works i d) less (next_work d) is (next_first d)
 
     -- one more was opened
     pub opening_next : (d after : LaneWork) (later : Held Scripted)
-        → ShowsLane settings fsdi (lane_of later lane) after (opens fsdi lane ((get_or works i d).txn + 1) (talks_of settings (get_or works i d))).waiting
+        → ShowsLane settings fsdi (lane_of later lane) after (replay_opens fsdi lane ((get_or works i d).txn + 1) (talks_of settings (get_or works i d))).waiting
         → IsOpened (lane_of later lane)
         → ((k : ℕ) → k ≢ lane → lane_of later k ≡ lane_of now k) → count_of later ≡ count_of now → later.order ≡ now.order
         → Opening settings fsdi (i + 1) before todo later (slice_set works i after)
@@ -147,7 +147,7 @@ module _ (settings : Config) (fsdi : ℕ) (before : Held Scripted) (todo : List 
         let shown : ShowsBegun settings fsdi lane (lane_of later lane) (work_of ws lane) (work_of todo lane) =
         subst (λ v. ShowsBegun settings fsdi lane (lane_of later lane) v (work_of todo lane)) (sym here)
         (subst (λ v. ShowsBegun settings fsdi lane (lane_of later lane) after v) (next_work d)
-        (subst (λ k. ShowsLane settings fsdi (lane_of later lane) after (opens fsdi lane k (talks_of settings w)).waiting) one shows)) in
+        (subst (λ k. ShowsLane settings fsdi (lane_of later lane) after (replay_opens fsdi lane k (talks_of settings w)).waiting) one shows)) in
         let same_work : (n : ℕ) → n ≢ lane → work_of ws n ≡ work_of works n = λ n d.
         work_elsewhere works i lane n after is (omega (arith, less, size)) d in
         record {
@@ -196,8 +196,8 @@ module _ (settings : Config) (fsdi : ℕ) (before : Held Scripted) (todo : List 
         (leb_tells n (length todo))
 
     pub all_shown : (trace : Replaying) (start written : Option (List ℕ)) (turns : List ℕ) → before ≡ new_lanes (length todo) turns
-        → trace ≡ begun trace.lines
-        → written ≡ with_text start (opening_text fsdi 1 (all_talks settings todo))
+        → trace ≡ begun_replay trace.lines
+        → written ≡ with_text start (replay_opening fsdi 1 (all_talks settings todo))
         → Shows settings fsdi start (record { lanes = now; works = works; trace = trace; written = written })
         (opened_replay fsdi turns trace.lines (all_talks settings todo))
     all_shown trace start written turns new fresh wrote = record {

@@ -9,7 +9,7 @@ use Rattle.law_lane.proofs.Moving.{times_more}
 use Rattle.ep_claim.specs.Lanes.ReplayText.{heard_piece}
 use Rattle.lane_replay.specs.Stopping.{OneEnd, ReplaysStay, ReplaysStop, TextsGrow}
 use Rattle.lane_replay.specs.Turned.{lines_left}
-use Rattle.ep_claim.specs.Lanes.WholeReplay.{HasStopped, LaneReplay, first_mismatch, hears, opened_replay, replay_after, replay_step}
+use Rattle.ep_claim.specs.Lanes.WholeReplay.{HasStopped, LaneReplay, first_mismatch, replay_hears, opened_replay, replay_after, replay_step}
 use Rattle.lane_replay.proofs.Answering.{answer_of}
 use Rattle.lane_replay.proofs.Stepping.{by_step, failed_stopped, stopped_same}
 
@@ -22,11 +22,11 @@ module _ (fsdi count : ℕ) where
       by_step fsdi count r (λ t q. HasStopped count (times (replay_step fsdi count) n q))
       (λ none. subst (λ q. HasStopped count q) (sym (stopped_same fsdi count n r none)) none)
       (λ l o w t e d x.
-      let after = hears fsdi l o w (None, t) r in
+      let after = replay_hears fsdi l o w (None, t) r in
       let failed = failed_stopped count after (answer_of l w.asks r.trace (None, t) x) in
       subst (λ q. HasStopped count q) (sym (stopped_same fsdi count n after failed)) failed)
       (λ l o w h t e d x.
-      let fewer = (answer_of l w.asks r.trace (Some h, t) x).1 in stops_in n (hears fsdi l o w (Some h, t) r) (omega (arith, less, fewer)))
+      let fewer = (answer_of l w.asks r.trace (Some h, t) x).1 in stops_in n (replay_hears fsdi l o w (Some h, t) r) (omega (arith, less, fewer)))
 
   -- ---- its text grows
 

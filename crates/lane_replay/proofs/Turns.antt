@@ -11,13 +11,13 @@ use Rattle.ep_claim.specs.Lanes.Order.{Order, next_turn}
 use Rattle.ep_lanes.specs.Lanes.{Held, LaneHeld, count_of, is_live, lane_of, next_lane, next_of}
 use Rattle.ep_lanes.proofs.Numbering.{live_there}
 use Rattle.ep_lanes.proofs.Ordering.{same_turn}
-use Rattle.lane_report.specs.Works.{LaneWork, work_of}
-use Rattle.lane_report.proofs.Appending.{with_more, wrote_since, prefix_more}
-use Rattle.lane_report.proofs.Steps.{next_live}
-use Rattle.ep_claim.specs.Lanes.ReplayText.{Piece, Waiting, heard_piece}
+use Rattle.lane_jobs.specs.Works.{LaneWork, work_of}
+use Rattle.lane_jobs.proofs.Appending.{with_more, wrote_since, prefix_more}
+use Rattle.ep_lanes.proofs.Ordering.{next_live}
+use Rattle.ep_claim.specs.Lanes.ReplayText.{ReplayPiece, Waiting, heard_piece}
 use Rattle.lane_replay.specs.Shows.{Fits, IsOpened, ReplayState, Shows, ShowsEnd, ShowsLane, ShowsWaiting}
 use Rattle.lane_replay.specs.Turned.{HeardPart, LaneCame, LaneCut, LaneDiffers, LaneHeard, LaneState, LaneTurned, Stepped, TurnCut, TurnTaken}
-use Rattle.ep_claim.specs.Lanes.WholeReplay.{HasStopped, LaneReplay, answered, hears, replay_step, takes_turn, turn_in, turn_of, turn_unless}
+use Rattle.ep_claim.specs.Lanes.WholeReplay.{HasStopped, LaneReplay, compared_at, replay_hears, replay_step, replay_takes, turn_in, replay_turn_of, turn_unless}
 use Rattle.ep_claim.specs.Lanes.WholeReplay as replays
 use Rattle.lane_replay.proofs.Answering.{answer_of}
 use Rattle.lane_replay.proofs.Stepping.{failed_stopped}
@@ -39,32 +39,32 @@ lane_state s lane work = record { held = lane_of s.lanes lane; work = work; trac
 module _ (settings : Config) (fsdi lane : ℕ) (before : ReplayState) (order : Order) (turn : next_of before.lanes ≡ Some (lane, order))
     (count : count_of before.lanes ≡ length before.works) (live : is_live before.lanes lane ≡ true) (start : Option (List ℕ)) (r : LaneReplay)
     (shows : Shows settings fsdi start before r) where
-  same_live : (n : ℕ) → is_live before.lanes n ≡ replays.is_live r n
+  same_live : (n : ℕ) → is_live before.lanes n ≡ replays.is_waiting r n
   same_live n = live_shown settings fsdi (lane_of before.lanes n) (work_of before.works n) (r.lanes n) (shows.each n)
 
-  order_turn : next_turn (replays.is_live r) (length before.works) r.order ≡ Some (lane, order)
+  order_turn : next_turn (replays.is_waiting r) (length before.works) r.order ≡ Some (lane, order)
   order_turn =
-      subst (λ n. next_turn (replays.is_live r) n r.order ≡ Some (lane, order)) count
-      (subst (λ (o : Order). next_turn (replays.is_live r) (count_of before.lanes) o ≡ Some (lane, order)) shows.order
-      (sym (same_turn (is_live before.lanes) (replays.is_live r) same_live (count_of before.lanes) before.lanes.order) ∙ turn))
+      subst (λ n. next_turn (replays.is_waiting r) n r.order ≡ Some (lane, order)) count
+      (subst (λ (o : Order). next_turn (replays.is_waiting r) (count_of before.lanes) o ≡ Some (lane, order)) shows.order
+      (sym (same_turn (is_live before.lanes) (replays.is_waiting r) same_live (count_of before.lanes) before.lanes.order) ∙ turn))
 
   replay_turn : turn_in (length before.works) r ≡ Some (lane, order)
-  replay_turn = ap (λ (f : Option Mismatch). turn_unless f (next_turn (replays.is_live r) (length before.works) r.order)) shows.well ∙ order_turn
+  replay_turn = ap (λ (f : Option Mismatch). turn_unless f (next_turn (replays.is_waiting r) (length before.works) r.order)) shows.well ∙ order_turn
 
   -- what holds of the exchange of the lane whose turn it is, holds of the replay's
   module _ (Q : LaneReplay → Type 0)
       (each : (w : Waiting) → ShowsWaiting settings fsdi (lane_of before.lanes lane) (work_of before.works lane) w
-      → Q (hears fsdi lane order w (answered lane w.asks r.trace) r)) where
-    by_waiting : (o : Option Waiting) → r.lanes lane ≡ o → Q (turn_of fsdi lane order o r)
+      → Q (replay_hears fsdi lane order w (compared_at lane w.asks r.trace) r)) where
+    by_waiting : (o : Option Waiting) → r.lanes lane ≡ o → Q (replay_turn_of fsdi lane order o r)
     by_waiting None e = let never : true ≡ false = sym live ∙ same_live lane ∙ ap is_some e in cc
     by_waiting (Some w) e = each w (subst (λ o. ShowsLane settings fsdi (lane_of before.lanes lane) (work_of before.works lane) o) e (shows.each lane))
 
     pub of_turn : Q (replay_step fsdi (length before.works) r)
-    of_turn = subst (λ t. Q (takes_turn fsdi t r)) (sym replay_turn) (by_waiting (r.lanes lane) refl)
+    of_turn = subst (λ t. Q (replay_takes fsdi t r)) (sym replay_turn) (by_waiting (r.lanes lane) refl)
 
   -- the answer is the replay's
-  by_trace : (w : Waiting) (a : Option Heard × Replaying) → answered lane w.asks before.trace ≡ a → answered lane w.asks r.trace ≡ a
-  by_trace w a line = subst (λ (s : Replaying). answered lane w.asks s ≡ a) shows.trace line
+  by_trace : (w : Waiting) (a : Option Heard × Replaying) → compared_at lane w.asks before.trace ≡ a → compared_at lane w.asks r.trace ≡ a
+  by_trace w a line = subst (λ (s : Replaying). compared_at lane w.asks s ≡ a) shows.trace line
 
   -- the lanes after it
   module _ (after : ReplayState) (w : Waiting) (order_is : after.lanes.order ≡ order)
@@ -73,7 +73,7 @@ module _ (settings : Config) (fsdi lane : ℕ) (before : ReplayState) (order : O
       (told : is_some after.written ≡ is_some before.written) where
     module _ (heard : LaneHeard settings fsdi lane (lane_state before lane (work_of before.works lane)) (lane_state after lane (work_of after.works lane)) w) where
       -- the piece that the lane wrote
-      abbrev piece : Piece
+      abbrev piece : ReplayPiece
       piece = heard_piece fsdi lane w heard.heard
 
       each_after : (k : ℕ) → ShowsLane settings fsdi (lane_of after.lanes k) (work_of after.works k) (if k == lane then piece.waiting else r.lanes k)
@@ -86,7 +86,7 @@ module _ (settings : Config) (fsdi lane : ℕ) (before : ReplayState) (order : O
           (subst (λ (v : LaneWork). ShowsLane settings fsdi (lane_of before.lanes k) v (r.lanes k)) (sym (other_works k x.1)) (shows.each k))))
           (eqb_tells k lane)
 
-      shown_after : Shows settings fsdi start after (hears fsdi lane order w (Some heard.heard, after.trace) r)
+      shown_after : Shows settings fsdi start after (replay_hears fsdi lane order w (Some heard.heard, after.trace) r)
       shown_after = record {
         each = each_after;
         order = order_is;
@@ -95,14 +95,14 @@ module _ (settings : Config) (fsdi lane : ℕ) (before : ReplayState) (order : O
         text = with_more start before.written after.written r.text piece.text shows.text heard.wrote.text told;
       }
 
-      pub heard_after : Shows settings fsdi start after (hears fsdi lane order w (answered lane w.asks r.trace) r)
+      pub heard_after : Shows settings fsdi start after (replay_hears fsdi lane order w (compared_at lane w.asks r.trace) r)
       heard_after =
-          subst (λ (a : Option Heard × Replaying). Shows settings fsdi start after (hears fsdi lane order w a r))
+          subst (λ (a : Option Heard × Replaying). Shows settings fsdi start after (replay_hears fsdi lane order w a r))
           (sym (by_trace w (Some heard.heard, after.trace) heard.line)) shown_after
 
     module _ (differs : LaneDiffers lane (lane_state before lane (work_of before.works lane)) (lane_state after lane (work_of after.works lane)) w) where
       abbrev failed : LaneReplay
-      failed = hears fsdi lane order w (None, after.trace) r
+      failed = replay_hears fsdi lane order w (None, after.trace) r
 
       end_after : HasStopped (length before.works) failed × ShowsEnd start after failed
       end_after = (
@@ -110,23 +110,23 @@ module _ (settings : Config) (fsdi lane : ℕ) (before : ReplayState) (order : O
         record { trace = refl; text = differs.wrote ∙ shows.text },
       )
 
-      pub differs_after : HasStopped (length before.works) (hears fsdi lane order w (answered lane w.asks r.trace) r)
-          × ShowsEnd start after (hears fsdi lane order w (answered lane w.asks r.trace) r)
+      pub differs_after : HasStopped (length before.works) (replay_hears fsdi lane order w (compared_at lane w.asks r.trace) r)
+          × ShowsEnd start after (replay_hears fsdi lane order w (compared_at lane w.asks r.trace) r)
       differs_after =
-          subst (λ (a : Option Heard × Replaying). HasStopped (length before.works) (hears fsdi lane order w a r) × ShowsEnd start after (hears fsdi lane order w a r))
+          subst (λ (a : Option Heard × Replaying). HasStopped (length before.works) (replay_hears fsdi lane order w a r) × ShowsEnd start after (replay_hears fsdi lane order w a r))
           (sym (by_trace w (None, after.trace) differs.line)) end_after
 
     pub came_after : (same : Bool)
         → LaneCame settings fsdi lane (lane_state before lane (work_of before.works lane)) (lane_state after lane (work_of after.works lane)) w same
-        → Stepped settings fsdi (length before.works) start after (hears fsdi lane order w (answered lane w.asks r.trace) r) same
+        → Stepped settings fsdi (length before.works) start after (replay_hears fsdi lane order w (compared_at lane w.asks r.trace) r) same
     came_after true h = heard_after h
     came_after false h = differs_after h
 
   -- a first part of its piece
   pub part_after : (w : Waiting) (t : Replaying) (written : Option (List ℕ)) → HeardPart fsdi lane before.trace t before.written written w
-      → AppendsPrefix start written (hears fsdi lane order w (answered lane w.asks r.trace) r).text
+      → AppendsPrefix start written (replay_hears fsdi lane order w (compared_at lane w.asks r.trace) r).text
   part_after w t written h =
-      subst (λ (a : Option Heard × Replaying). AppendsPrefix start written (hears fsdi lane order w a r).text)
+      subst (λ (a : Option Heard × Replaying). AppendsPrefix start written (replay_hears fsdi lane order w a r).text)
       (sym (by_trace w (Some h.heard, t) h.line))
       (prefix_more start before.written written r.text _ (wrote_since start before.written r.text shows.text) h.part)
 

@@ -8,10 +8,10 @@ use Rattle.ep_claim.specs.Text.WrittenText.{event_lines}
 use Rattle.ep_claim.specs.Lanes.Exchanges.{Lane, field_answers, or_silence}
 use Rattle.ep_claim.specs.Lanes.Standing.{asked_by, events_of, started}
 use Rattle.ep_claim.specs.Lanes.Ending.{HasEnded}
-use Rattle.ep_claim.specs.Lanes.LaneText.{Going, Job, added, heard_lane, traced_as}
+use Rattle.ep_claim.specs.Lanes.LaneText.{Going, Job, added_events, heard_lane, traced_as}
 use Rattle.ep_claim.specs.Lanes.Order.{Order, next_turn}
 use Rattle.ep_claim.specs.Lanes.WholeRun.{Run, is_live, open_probe, opened_run, run_after, run_step}
-use Rattle.lane_report.specs.Works.{LaneWork, all_jobs}
+use Rattle.lane_jobs.specs.Works.{LaneWork, all_jobs}
 use Rattle.lane_replay.specs.Shows.{all_talks}
 use Rattle.ep_claim.specs.Lanes.WholeReplay.{ReplayEnds}
 
@@ -50,7 +50,7 @@ said_opening fsdi lane txn (j ∷ js) =
 -- The lines of events with which a lane goes on after an exchange (this project's own).
 abbrev pub said_on : (fsdi lane : ℕ) → Going → Lane → List ℕ
 said_on fsdi lane g l =
-    event_lines lane g.txn (added g.talk g.lane.standing l.standing)
+    event_lines lane g.txn (added_events g.talk g.lane.standing l.standing)
     ++ said_after (asked_by fsdi l.standing.doing) (said_opening fsdi lane (g.txn + 1) g.left)
 
 -- By what is asked next, if anything is (this project's own).
@@ -81,17 +81,17 @@ said_first fsdi lane [] = []
 said_first fsdi lane (jobs ∷ rest) = said_opening fsdi lane 1 jobs ++ said_first fsdi (lane + 1) rest
 
 -- What the transactions of all lanes say and ask (this project's own).
-abbrev pub talks_in : List (List Job) → List (List Talk)
-talks_in lanes = map (λ jobs. map (λ (j : Job). j.talk) jobs) lanes
+abbrev pub talks_of_lanes : List (List Job) → List (List Talk)
+talks_of_lanes lanes = map (λ jobs. map (λ (j : Job). j.talk) jobs) lanes
 
 -- The trace of a run that is over is matched by the replay of its lanes, which writes the run's events without its log lines, whatever the order of
 -- the exchanges (this project's own).
 abbrev pub OwnTraceMatches : Type 0
 OwnTraceMatches =
     (traced : Bool) (fsdi : ℕ) (turns : List ℕ) (lanes : List (List Job)) (n : ℕ) → HasEnded (length lanes) (run_after traced open_probe fsdi turns tt lanes n) →
-    ReplayEnds fsdi turns (lines_of traced fsdi (length lanes) n (opened_run fsdi turns tt lanes)) (talks_in lanes) None
+    ReplayEnds fsdi turns (lines_of traced fsdi (length lanes) n (opened_run fsdi turns tt lanes)) (talks_of_lanes lanes) None
     (said_first fsdi 1 lanes ++ said_of traced fsdi (length lanes) n (opened_run fsdi turns tt lanes))
 
 -- The lanes of a report and those of a replay say and ask the same (this project's own).
 abbrev pub SameTalks : Type 0
-SameTalks = (settings : Config) (works : List LaneWork) → talks_in (all_jobs settings works) ≡ all_talks settings works
+SameTalks = (settings : Config) (works : List LaneWork) → talks_of_lanes (all_jobs settings works) ≡ all_talks settings works

@@ -4,7 +4,7 @@ use Rattle.std.specs.Io.KnownBytes.{Appends}
 use Rattle.ep_rules.specs.EntryPoint.Configuration.{Config}
 use Rattle.ep_base.specs.Streams.Io.{AppendsPrefix}
 use Rattle.ep_claim.specs.Lanes.ReplayRun.{Mismatch}
-use Rattle.lane_report.specs.Works.{LaneWork}
+use Rattle.lane_jobs.specs.Works.{LaneWork}
 use Rattle.lane_replay.specs.Shows.{ReplayState, Shows, all_talks}
 use Rattle.ep_claim.specs.Lanes.WholeReplay.{ReplayEnds, opened_replay}
 

@@ -7,8 +7,9 @@ use Rattle.ep_rules.specs.EntryPoint.Talk.{Talk}
 use Rattle.ep_lanes.specs.Lanes.{LaneHeld, Held, no_lane, lane_of, count_of}
 use Rattle.ep_lanes.specs.Turns.{Stands}
 use Rattle.ep_claim.specs.Lanes.Standing.{asked_by}
-use Rattle.lane_report.specs.Works.{LaneWork, talk_in, work_of}
-use Rattle.lane_report.specs.Written.{with_text}
+use Rattle.scenario.specs.Jobs.{talk_in}
+use Rattle.lane_jobs.specs.Works.{LaneWork, work_of}
+use Rattle.lane_jobs.specs.Written.{with_text}
 use Rattle.ep_claim.specs.Lanes.ReplayText.{Waiting}
 use Rattle.ep_claim.specs.Lanes.WholeReplay.{LaneReplay}
 

@@ -7,7 +7,7 @@ use Rattle.ep_base.specs.Streams.Io.{AppendsPrefix}
 use Rattle.ep_rules.specs.EntryPoint.Kernel.{Scripted, scripted}
 use Rattle.ep_base.specs.Air.Medium as media
 use Rattle.ep_claim.specs.Lanes.ReplayRun.{Replaying, at_lane, replay}
-use Rattle.ep_rules.specs.EntryPoint.Event.{Said}
+use Rattle.ep_rules.specs.EntryPoint.Event.{Event as EventData}
 use Rattle.ep_claim.specs.Lanes.Standing.{Standing, asked_by, started}
 use Rattle.ep_claim.specs.Lanes.WholeRun.{open_probe}
 use Rattle.ep_lanes.specs.Lanes.{Held, LaneHeld}
@@ -15,11 +15,12 @@ use Rattle.ep_lanes.specs.Probing as probes
 use Rattle.ep_lanes.specs.Turns as turns
 use Rattle.ep_lanes.specs.Turns.{Stands, Tells}
 use Rattle.ep_lanes.specs.declared.exchange.Turned.{Turned}
-use Rattle.scenario.specs.Scene.{Work}
-use Rattle.lane_report.specs.Works.{LaneWork, talk_in}
-use Rattle.ep_claim.specs.Lanes.ReplayText.{Piece, Waiting, goes_on, heard_piece}
+use Rattle.scenario.specs.Jobs.{talk_in}
+use Rattle.scenario.specs.Scenario.{Work}
+use Rattle.lane_jobs.specs.Works.{LaneWork}
+use Rattle.ep_claim.specs.Lanes.ReplayText.{ReplayPiece, Waiting, replay_goes_on, heard_piece}
 use Rattle.lane_replay.specs.Shows.{ReplayState, Shows, ShowsEnd, ShowsLane, ShowsWaiting, talks_of}
-use Rattle.ep_claim.specs.Lanes.WholeReplay.{HasStopped, LaneReplay, answered, replay_step}
+use Rattle.ep_claim.specs.Lanes.WholeReplay.{HasStopped, LaneReplay, compared_at, replay_step}
 
 -- A transaction of a lane was begun: where something is asked the lane holds it open, and else the lane is without a transaction again (this
 -- project's own).
@@ -33,7 +34,7 @@ abbrev pub lines_left : Replaying → ℕ
 lines_left s = length s.lines - s.taken
 
 -- One turn of this lane with the trace in place of cards: it asked what the next line says, and heard what that line heard (this project's own).
-abbrev pub HeardLine : (lane : ℕ) → (before : Held Scripted) (s : Replaying) → Turned → List Said → (after : Held Scripted) (t : Replaying) → Type 0
+abbrev pub HeardLine : (lane : ℕ) → (before : Held Scripted) (s : Replaying) → Turned → List EventData → (after : Held Scripted) (t : Replaying) → Type 0
 HeardLine lane before s turned said after t =
     turns.Turns scripted (media.told replay) (probes.told open_probe) lane before (at_lane lane s) tt turned said after t tt
 
@@ -49,7 +50,7 @@ pub record IsAfter (settings : Config) (fsdi : ℕ) (held : LaneHeld Scripted) (
   pub left : talks_of settings work ≡ w.left
 
 -- A lane wrote a piece, and shows the lane after it (this project's own).
-pub record Wrote (settings : Config) (fsdi : ℕ) (held : LaneHeld Scripted) (work : LaneWork) (before after : Option (List ℕ)) (piece : Piece) : Type 0 where
+pub record Wrote (settings : Config) (fsdi : ℕ) (held : LaneHeld Scripted) (work : LaneWork) (before after : Option (List ℕ)) (piece : ReplayPiece) : Type 0 where
   pub text : Appends before after piece.text
   pub shows : ShowsLane settings fsdi held work piece.waiting
 
@@ -58,13 +59,13 @@ abbrev pub GoesOn : Config → (fsdi lane : ℕ) → (held : LaneHeld Scripted) 
     → (before after : Option (List ℕ)) → Type 0
 GoesOn settings fsdi lane held work turned held_then work_then before after =
     (w : Waiting) (s : Standing) → IsAfter settings fsdi held work turned w s →
-    Wrote settings fsdi held_then work_then before after (goes_on fsdi lane w s (asked_by fsdi s.doing))
+    Wrote settings fsdi held_then work_then before after (replay_goes_on fsdi lane w s (asked_by fsdi s.doing))
 
 -- A first part of it was written (this project's own).
 abbrev pub GoesOnPart : Config → (fsdi lane : ℕ) → (held : LaneHeld Scripted) (work : LaneWork) → Turned → (before after : Option (List ℕ)) → Type 0
 GoesOnPart settings fsdi lane held work turned before after =
     (w : Waiting) (s : Standing) → IsAfter settings fsdi held work turned w s →
-    AppendsPrefix before after (goes_on fsdi lane w s (asked_by fsdi s.doing)).text
+    AppendsPrefix before after (replay_goes_on fsdi lane w s (asked_by fsdi s.doing)).text
 
 -- A lane with its work, the trace, and the bytes written, where they are told (this project's own).
 pub record LaneState : Type 0 where
@@ -76,12 +77,12 @@ pub record LaneState : Type 0 where
 -- A lane asked what the trace's next line says, and wrote the piece of what that line heard (this project's own).
 pub record LaneHeard (settings : Config) (fsdi lane : ℕ) (before after : LaneState) (w : Waiting) : Type 0 where
   pub heard : Heard
-  pub line : answered lane w.asks before.trace ≡ (Some heard, after.trace)
+  pub line : compared_at lane w.asks before.trace ≡ (Some heard, after.trace)
   pub wrote : Wrote settings fsdi after.held after.work before.written after.written (heard_piece fsdi lane w heard)
 
 -- A lane asked something else, and wrote nothing (this project's own).
 pub record LaneDiffers (lane : ℕ) (before after : LaneState) (w : Waiting) : Type 0 where
-  pub line : answered lane w.asks before.trace ≡ (None, after.trace)
+  pub line : compared_at lane w.asks before.trace ≡ (None, after.trace)
   pub wrote : after.written ≡ before.written
 
 -- The one or the other, by whether it asked what the line says (this project's own).
@@ -97,7 +98,7 @@ LaneTurned settings fsdi lane before after same =
 -- A lane asked what the trace's next line says, and wrote a first part of the piece (this project's own).
 pub record HeardPart (fsdi lane : ℕ) (before after : Replaying) (written then : Option (List ℕ)) (w : Waiting) : Type 0 where
   pub heard : Heard
-  pub line : answered lane w.asks before ≡ (Some heard, after)
+  pub line : compared_at lane w.asks before ≡ (Some heard, after)
   pub part : AppendsPrefix written then (heard_piece fsdi lane w heard).text
 
 -- So it is for whatever the lane showed (this project's own).

@@ -6,16 +6,16 @@ ghost use Rattle.ep_base.specs.Streams.Io.{AppendsPrefix};
 ghost use Rattle.ep_claim.specs.Text.WrittenText.{event_lines};
 ghost use Rattle.ep_lanes.specs.Lanes.{count_of, has_open, is_live, lane_of};
 ghost use Rattle.ep_claim.specs.Lanes.Standing.{events_of, started};
-ghost use Rattle.lane_report.specs.Shows.{held_of};
-ghost use Rattle.lane_report.specs.Works.{talk_in};
-ghost use Rattle.ep_claim.specs.Lanes.ReplayText.{opens};
+ghost use Rattle.ep_lanes.specs.Scripted.{held_of};
+ghost use Rattle.scenario.specs.Jobs.{talk_in};
+ghost use Rattle.ep_claim.specs.Lanes.ReplayText.{replay_opens};
 ghost use Rattle.lane_replay.specs.Shows.{IsOpened, ShowsLane, talks_of};
 ghost use Rattle.lane_replay.specs.Turned.{BegunLane};
 
 use acquirer_config::Config;
 use ep_base::{Sink, SinkFailed};
 use ep_lanes::{EventList, Lanes, Turned};
-use lane_report::{LaneJobs, write_events};
+use lane_jobs::{LaneJobs, write_events};
 use pre_processing::prepare;
 use scenario::{Job, Scripts};
 
@@ -82,12 +82,12 @@ pub(crate) fn begin_next<K: Sink>(
     requires live { is_live (held_of lanes.old) lane ≡ true }
     requires closed { has_open (held_of lanes.old) lane ≡ false }
     ensures ok { OnOk result (Appends (K.written output.old) (K.written output.new)
-        (opens fsdi lane (work.old.txn + 1) (talks_of config.now work.old)).text) }
+        (replay_opens fsdi lane (work.old.txn + 1) (talks_of config.now work.old)).text) }
     ensures shows { OnOk result (ShowsLane config.now fsdi (lane_of (held_of lanes.new) lane) work.new
-        (opens fsdi lane (work.old.txn + 1) (talks_of config.now work.old)).waiting) }
+        (replay_opens fsdi lane (work.old.txn + 1) (talks_of config.now work.old)).waiting) }
     ensures fits { OnOk result (IsOpened (lane_of (held_of lanes.new) lane)) }
     ensures err { OnErr result (AppendsPrefix (K.written output.old) (K.written output.new)
-        (opens fsdi lane (work.old.txn + 1) (talks_of config.now work.old)).text) }
+        (replay_opens fsdi lane (work.old.txn + 1) (talks_of config.now work.old)).text) }
     ensures told { is_some (K.written output.new) ≡ is_some (K.written output.old) }
     ensures cause { HasCause (K.faults output.old) (K.faults output.new) (IsErr result) }
     ensures others { (k : ℕ) → k ≢ lane → lane_of (held_of lanes.new) k ≡ lane_of (held_of lanes.old) k }

@@ -2,23 +2,23 @@
 ghost use Rattle.std.specs.Prelude.{◌≡◌, ◌≤◌, All, length, IfErr, OnOk, OnErr, IsErr, IsErrAnd, None, is_some};
 ghost use Rattle.ep_base.specs.Streams.Causes.{HasCause};
 ghost use Rattle.ep_base.specs.Streams.Io.{AppendsPrefix};
-ghost use Rattle.ep_claim.specs.Lanes.ReplayRun.{begun};
+ghost use Rattle.ep_claim.specs.Lanes.ReplayRun.{begun_replay};
 ghost use Rattle.ep_lanes.specs.Lanes.{new_lanes};
 ghost use Rattle.trace_io.specs.Replays.{replaying_of};
-ghost use Rattle.lane_report.specs.Shows.{held_of};
+ghost use Rattle.ep_lanes.specs.Scripted.{held_of};
 ghost use Rattle.lane_replay.specs.Ends.{Ended, IsSinkFault};
 ghost use Rattle.lane_replay.specs.Made.{TurnsCut, TurnsMade};
 ghost use Rattle.lane_replay.specs.Replayed.{IsFirst, LanesOpened, Replayed};
 ghost use Rattle.lane_replay.specs.Shows.{Fits, all_talks};
-ghost use Rattle.ep_claim.specs.Lanes.WholeReplay.{opening_text};
+ghost use Rattle.ep_claim.specs.Lanes.WholeReplay.{replay_opening};
 
 use crate::ending::{ReplayEnd, copy_mismatch};
 use crate::opening::begin_next;
 use crate::turning::take_turn;
 use acquirer_config::Config;
 use ep_base::{Sink, SinkFailed};
-use ep_lanes::Lanes;
-use lane_report::LaneJobs;
+use ep_lanes::{EventList, Lanes};
+use lane_jobs::LaneJobs;
 use scenario::Scripts;
 use trace_io::Replay;
 
@@ -44,7 +44,7 @@ pub fn replay_lanes<K: Sink>(
     requires new { held_of lanes.old ≡ new_lanes (length works.old) (held_of lanes.old).order.turns }
     requires few { length works.old ≤ 8 }
     requires works { All IsFirst works.old }
-    requires begun { replaying_of replay.old ≡ begun (replaying_of replay.old).lines }
+    requires begun { replaying_of replay.old ≡ begun_replay (replaying_of replay.old).lines }
     ensures ok { OnOk result (Replayed config.now fsdi (held_of lanes.old).order.turns
         (record { lanes = held_of lanes.old; works = works.old; trace = replaying_of replay.old; written = K.written output.old })
         (K.written output.new) None) }
@@ -86,13 +86,13 @@ fn open_lanes<K: Sink>(
     requires new { held_of lanes.old ≡ new_lanes (length works.old) (held_of lanes.old).order.turns }
     requires few { length works.old ≤ 8 }
     requires works { All IsFirst works.old }
-    requires begun { replaying_of replay.now ≡ begun (replaying_of replay.now).lines }
+    requires begun { replaying_of replay.now ≡ begun_replay (replaying_of replay.now).lines }
     ensures ok { OnOk result (LanesOpened config.now fsdi (held_of lanes.old).order.turns
         (record { lanes = held_of lanes.old; works = works.old; trace = replaying_of replay.now; written = K.written output.old })
         (record { lanes = held_of lanes.new; works = works.new; trace = replaying_of replay.now; written = K.written output.new })) }
     ensures fits { OnOk result (Fits (held_of lanes.new) works.new) }
     ensures count { length works.new ≡ length works.old }
-    ensures err { OnErr result (AppendsPrefix (K.written output.old) (K.written output.new) (opening_text fsdi 1 (all_talks config.now works.old))) }
+    ensures err { OnErr result (AppendsPrefix (K.written output.old) (K.written output.new) (replay_opening fsdi 1 (all_talks config.now works.old))) }
     ensures told { is_some (K.written output.new) ≡ is_some (K.written output.old) }
     ensures cause { HasCause (K.faults output.old) (K.faults output.new) (IsErr result) }
 {
@@ -128,8 +128,18 @@ fn make_turns<K: Sink>(
     ensures told { is_some (K.written output.new) ≡ is_some (K.written output.old) }
     ensures cause { HasCause (K.faults output.old) (K.faults output.new) (IsErr result) }
 {
+    let mut events = EventList::new();
     'each: while let Some(lane) = lanes.next() {
-        match take_turn(lane, lanes, config, fsdi, works, replay, output) {
+        match take_turn(
+            lane,
+            lanes,
+            config,
+            fsdi,
+            works,
+            replay,
+            output,
+            &mut events,
+        ) {
             Ok(true) => {}
             Ok(false) => return Ok(()),
             Err(_) => return Err(SinkFailed),

@@ -1,28 +1,29 @@
 //! Whole replays of a purchase with a card that has no directory: what no clause says is their text and their lines.
-ghost use Rattle.std.specs.Prelude.{IfOk};
+ghost use Rattle.std.specs.Prelude.{◌≤◌, All, IfOk, length};
 ghost use Rattle.lane_replay.specs.Replayed.{IsFirst};
 
 use super::*;
-use ep_base::MemorySink;
+use acquirer_config::Config;
+use ep_base::{Line, MemorySink};
 use ep_lanes::Lanes;
-use lane_report::LaneJobs;
+use lane_jobs::LaneJobs;
 use scenario::{Job, Scenario};
-use std::alloc::AllocGlobal;
-use std::process::Abort;
 use std::test::Fail;
-use trace_io::{Mismatch, Replay, Shown, TraceLine, read_trace_line};
+use trace_io::{Replay, TraceLine, mismatch_text, read_trace_line};
 
-/// A document's Combination, and a lane with a purchase that has a card without a directory.
+/// A document's Combination.
 const ROOT: &str = r#"
 version = 1
 [[combinations]]
 type = 0
 aid = "a0000000031010"
 kernel = 3
-[[lanes]]
 "#;
 
-const TRANSACTION: &str = r#"
+const LANE: &str = "[[lanes]]\n";
+
+/// A purchase that has a card without a directory.
+const PURCHASE: &str = r#"
 [[lanes.transactions]]
 type = 0
 amount = 1000
@@ -42,39 +43,53 @@ steps = [{send = "80a8000002830000"}]
 outcome = "approved 03"
 "#;
 
-/// Its trace.
-const TRACE: [&str; 9] = [
-    "x 1 S 52 0 =0400",
-    "x 1 A 500057cd 0 -",
-    "x 1 B 0500083973 0 -",
-    "x 1 S 52 0 =0400",
-    "x 1 N 9320 0 =0102030404",
-    "x 1 A 937001020304048e25 0 =20fc70",
-    "x 1 A e0803173 0 =03284087e5",
-    "x 1 A 0200a404000e325041592e5359532e444446303100e042 16 =026a82932f",
-    "x 1 A c2e0b4 16 =c2e0b4",
-];
+/// Its trace up to the card, and then.
+const FINDING: &str = "\
+x 1 S 52 0 =0400
+x 1 A 500057cd 0 -
+x 1 B 0500083973 0 -
+x 1 S 52 0 =0400
+x 1 N 9320 0 =0102030404
+x 1 A 937001020304048e25 0 =20fc70
+x 1 A e0803173 0 =03284087e5
+";
 
-/// What lane 2 does in the same purchase.
-const SECOND: [&str; 9] = [
-    "x 2 S 52 0 =0400",
-    "x 2 A 500057cd 0 -",
-    "x 2 B 0500083973 0 -",
-    "x 2 S 52 0 =0400",
-    "x 2 N 9320 0 =0102030404",
-    "x 2 A 937001020304048e25 0 =20fc70",
-    "x 2 A e0803173 0 =03284087e5",
-    "x 2 A 0200a404000e325041592e5359532e444446303100e042 16 =026a82932f",
-    "x 2 A c2e0b4 16 =c2e0b4",
-];
+const SELECT: &str = "x 1 A 0200a404000e325041592e5359532e444446303100e042 16 =026a82932f\n";
 
-/// What is written up to the card, then up to the closing of its presentation, and at the end.
-const FOUND: &str = "\
+const OTHER_SELECT: &str = "x 1 A 0200a404000e325041592e5359532e444446303100e043 16 =026a82932f\n";
+
+const LAST: &str = "x 1 A c2e0b4 16 =c2e0b4\n";
+
+/// The traces of two lanes, whose exchanges alternate.
+const BOTH_TRACES: &str = "\
+x 1 S 52 0 =0400
+x 2 S 52 0 =0400
+x 1 A 500057cd 0 -
+x 2 A 500057cd 0 -
+x 1 B 0500083973 0 -
+x 2 B 0500083973 0 -
+x 1 S 52 0 =0400
+x 2 S 52 0 =0400
+x 1 N 9320 0 =0102030404
+x 2 N 9320 0 =0102030404
+x 1 A 937001020304048e25 0 =20fc70
+x 2 A 937001020304048e25 0 =20fc70
+x 1 A e0803173 0 =03284087e5
+x 2 A e0803173 0 =03284087e5
+x 1 A 0200a404000e325041592e5359532e444446303100e042 16 =026a82932f
+x 2 A 0200a404000e325041592e5359532e444446303100e042 16 =026a82932f
+x 1 A c2e0b4 16 =c2e0b4
+x 2 A c2e0b4 16 =c2e0b4
+";
+
+/// What is written before the first exchange, up to the card, up to the closing of its presentation, and at the end.
+const OPENED: &str = "\
 1.1 start type=00 amount=1000
 1.1 pre 1 aid=a0000000031010 kernel=3 allowed=1 status=0 zero=0 floor=0 cvm=0 ttq=-
 1.1 message 15 Present card
-1.1 card A 01020304
 ";
+
+const FOUND: &str = "1.1 card A 01020304\n";
 
 const REFUSED: &str = "\
 1.1 apdu 00a404000e325041592e5359532e444446303100 6a82
@@ -98,7 +113,7 @@ const AGAIN: &str = "\
 1.2 end done
 ";
 
-/// Two lanes, whose exchanges alternate.
+/// Two lanes.
 const BOTH: &str = "\
 1.1 start type=00 amount=1000
 1.1 pre 1 aid=a0000000031010 kernel=3 allowed=1 status=0 zero=0 floor=0 cvm=0 ttq=-
@@ -120,172 +135,153 @@ const BOTH: &str = "\
 2.1 end done
 ";
 
-// The document with these transactions.
-fn document(rt: &(impl Abort + AllocGlobal), transactions: &[&str]) -> Result<Scenario, Fail> {
-    let mut text = String::from_str(rt.alloc(), ROOT)?;
-    for transaction in transactions {
-        text.push_str(transaction)?;
-    }
-    match Scenario::of_bytes(rt.alloc(), text.as_bytes()) {
-        Ok(scenario) => Ok(scenario),
-        Err(_) => Err("document".into()),
-    }
+/// A replay, and how it ends.
+#[derive(Drop)]
+struct Case {
+    /// What is tried.
+    name: &'static str,
+    /// The document's parts, one after another: one lane or two.
+    document: &'static [&'static str],
+    /// The parts of the trace.
+    trace: &'static [&'static str],
+    /// The pushes at which the sink fails.
+    fails: &'static [u32],
+    /// What is said of its end, nothing where it is matched.
+    end: &'static str,
+    /// The parts of what is written.
+    text: &'static [&'static str],
 }
 
-fn trace(rt: &(impl Abort + AllocGlobal), texts: &[&str]) -> Result<Vec<TraceLine>, Fail> {
+/// The replay of the purchase.
+const MATCHED: Case = Case {
+    name: "a trace that is matched",
+    document: &[ROOT, LANE, PURCHASE],
+    trace: &[FINDING, SELECT, LAST],
+    fails: &[],
+    end: "",
+    text: &[OPENED, FOUND, REFUSED, DONE],
+};
+
+const CASES: [Case; 7] = [
+    MATCHED,
+    Case {
+        name: "a frame that differs",
+        trace: &[FINDING, OTHER_SELECT, LAST],
+        end: "ep_program: mismatch at 8: wanted 1 A 0200a404000e325041592e5359532e444446303100e043 16, got 1 A 0200a404000e325041592e5359532e444446303100e042 16",
+        text: &[OPENED, FOUND],
+        ..MATCHED
+    },
+    Case {
+        name: "a trace that ends first",
+        trace: &[FINDING, SELECT],
+        end: "ep_program: mismatch at 9: wanted nothing, got 1 A c2e0b4 16",
+        text: &[OPENED, FOUND, REFUSED],
+        ..MATCHED
+    },
+    Case {
+        name: "a run that ends first",
+        trace: &[FINDING, SELECT, LAST, "x 1 S 52 0 -\n"],
+        end: "ep_program: mismatch at 10: wanted 1 S 52 0, got nothing",
+        ..MATCHED
+    },
+    Case {
+        name: "a second transaction",
+        document: &[ROOT, LANE, PURCHASE, PURCHASE],
+        trace: &[FINDING, SELECT, LAST, FINDING, SELECT, LAST],
+        text: &[OPENED, FOUND, REFUSED, DONE, AGAIN],
+        ..MATCHED
+    },
+    Case {
+        name: "a sink that fails",
+        fails: &[4],
+        end: "the sink has failed",
+        text: &[OPENED],
+        ..MATCHED
+    },
+    Case {
+        name: "two lanes",
+        document: &[ROOT, LANE, PURCHASE, LANE, PURCHASE],
+        trace: &[BOTH_TRACES],
+        text: &[BOTH],
+        ..MATCHED
+    },
+];
+
+fn trace(rt: &HostRuntime, text: &str) -> Result<Vec<TraceLine>, Fail> {
     let mut lines = Vec::new(rt.alloc());
-    for text in texts {
-        lines.push(read_trace_line(text).ok_or("not a trace line")?)?;
+    for line in text.lines() {
+        lines.push(read_trace_line(line).ok_or("not a trace line")?)?;
     }
     Ok(lines)
 }
 
-// The transactions of the last lane that wasn't taken.
-fn last_lane(rt: &(impl Abort + AllocGlobal), lanes: &mut Vec<Vec<Job>>) -> Result<LaneJobs, Fail>
+/// The transactions of the last lane that wasn't taken.
+fn last_lane(lanes: &mut Vec<Vec<Job>>) -> Result<LaneJobs, Fail>
     ensures { IfOk result IsFirst }
 {
     let jobs = lanes.pop().ok_or("no lane")?;
-    assert!(rt; jobs.len() <= 64);
+    if jobs.len() > 64 {
+        return Err(Fail::from("too many transactions"));
+    }
     Ok(LaneJobs::of(jobs))
 }
 
-// How the replay of one lane ended, and what it wrote; the sink fails at these pushes.
-fn replayed(
-    rt: &(impl Abort + AllocGlobal),
-    transactions: &[&str],
-    texts: &[&str],
-    fails: Vec<u32>,
-) -> Result<(Result<(), ReplayEnd>, MemorySink), Fail> {
-    let mut scenario = document(rt, transactions)?;
-    let mut works = [last_lane(rt, &mut scenario.lanes)?];
-    let Ok(mut lanes) = Lanes::open(rt.alloc(), 1, Vec::new(rt.alloc())) else {
-        return Err("memory".into());
+/// What is said of how a replay ended.
+fn said_of(end: &Result<(), ReplayEnd>) -> Line {
+    let mut said = Line::new();
+    match end {
+        Ok(()) => {}
+        Err(ReplayEnd::Mismatch(mismatch)) => mismatch_text(mismatch, &mut said),
+        Err(ReplayEnd::SinkFailed) => said.push_str("the sink has failed"),
+    }
+    said
+}
+
+/// The replay of these lanes ends as in this case.
+fn check_lanes(
+    rt: &HostRuntime,
+    config: &Config,
+    works: &mut [LaneJobs],
+    case: &Case,
+) -> Result<(), Fail>
+    requires few { length works.old ≤ 8 }
+    requires first { All IsFirst works.old }
+{
+    let Ok(mut lanes) = Lanes::open(rt.alloc(), works.len() as u8, Vec::new(rt.alloc())) else {
+        return Err(Fail::from("memory"));
     };
-    let mut replay = Replay::of(trace(rt, texts)?);
+    let lines = case.trace.concat(rt.alloc())?;
+    let mut replay = Replay::of(trace(rt, lines.as_str())?);
+    let fails = case.fails.to_vec(rt.alloc())?;
     let mut sink = MemorySink::new(rt.alloc(), 4096, fails).map_err(|_| "room")?;
-    let end = replay_lanes(
-        &mut lanes,
-        &scenario.config,
-        8,
-        &mut works,
-        &mut replay,
-        &mut sink,
-    );
-    Ok((end, sink))
-}
-
-// These texts are what was written.
-fn check_written(
-    rt: &(impl Abort + AllocGlobal),
-    sink: &MemorySink,
-    texts: &[&str],
-) -> Result<(), Fail> {
-    let mut wanted = String::new(rt.alloc());
-    for text in texts {
-        wanted.push_str(text)?;
+    let end = replay_lanes(&mut lanes, config, 8, works, &mut replay, &mut sink);
+    let said = said_of(&end);
+    let text = case.text.concat(rt.alloc())?;
+    let written = std::str::from_utf8(sink.written())?;
+    if said.as_str() == case.end && written == text.as_str() {
+        return Ok(());
     }
-    assert_eq!(rt; sink.written(), wanted.as_bytes());
-    Ok(())
+    let other = format!(in rt.alloc(); "{}: {}\n{written}", case.name, said.as_str())?;
+    Err(Fail::from(other))
 }
 
-// What this line says was sent.
-fn sent(text: &str) -> Result<Shown, Fail> {
-    let line = read_trace_line(text).ok_or("not a trace line")?;
-    Ok(line.sent)
-}
-
-#[test]
-fn a_trace_that_is_matched(rt: HostRuntime) -> Result<(), Fail> {
-    let (end, sink) = replayed(&rt, &[TRANSACTION], &TRACE, Vec::new(rt.alloc()))?;
-    assert_eq!(rt; end, Ok(()));
-    check_written(&rt, &sink, &[FOUND, REFUSED, DONE])
-}
-
-#[test]
-fn a_frame_that_differs(rt: HostRuntime) -> Result<(), Fail> {
-    let mut texts = TRACE;
-    texts[7] = "x 1 A 0200a404000e325041592e5359532e444446303100e043 16 =026a82932f";
-    let (end, sink) = replayed(&rt, &[TRANSACTION], &texts, Vec::new(rt.alloc()))?;
-    let mismatch = Mismatch {
-        place: 8,
-        wanted: Some(sent(texts[7])?),
-        got: Some(sent(TRACE[7])?),
+fn check_case(rt: &HostRuntime, case: &Case) -> Result<(), Fail> {
+    let text = case.document.concat(rt.alloc())?;
+    let Ok(mut scenario) = Scenario::of_bytes(rt.alloc(), text.as_bytes()) else {
+        return Err(Fail::from(case.name));
     };
-    assert_eq!(rt; end, Err(ReplayEnd::Mismatch(mismatch)));
-    check_written(&rt, &sink, &[FOUND])
-}
-
-#[test]
-fn a_trace_that_ends_first(rt: HostRuntime) -> Result<(), Fail> {
-    let (end, sink) = replayed(&rt, &[TRANSACTION], &TRACE[..8], Vec::new(rt.alloc()))?;
-    let mismatch = Mismatch {
-        place: 9,
-        wanted: None,
-        got: Some(sent(TRACE[8])?),
-    };
-    assert_eq!(rt; end, Err(ReplayEnd::Mismatch(mismatch)));
-    check_written(&rt, &sink, &[FOUND, REFUSED])
-}
-
-#[test]
-fn a_run_that_ends_first(rt: HostRuntime) -> Result<(), Fail> {
-    let mut texts = TRACE.to_vec(rt.alloc())?;
-    texts.push("x 1 S 52 0 -")?;
-    let (end, sink) = replayed(&rt, &[TRANSACTION], &texts, Vec::new(rt.alloc()))?;
-    let mismatch = Mismatch {
-        place: 10,
-        wanted: Some(sent("x 1 S 52 0 -")?),
-        got: None,
-    };
-    assert_eq!(rt; end, Err(ReplayEnd::Mismatch(mismatch)));
-    check_written(&rt, &sink, &[FOUND, REFUSED, DONE])
-}
-
-#[test]
-fn a_second_transaction(rt: HostRuntime) -> Result<(), Fail> {
-    let mut texts = TRACE.to_vec(rt.alloc())?;
-    texts.extend_from_slice(&TRACE)?;
-    let transactions = [TRANSACTION, TRANSACTION];
-    let (end, sink) = replayed(&rt, &transactions, &texts, Vec::new(rt.alloc()))?;
-    assert_eq!(rt; end, Ok(()));
-    check_written(&rt, &sink, &[FOUND, REFUSED, DONE, AGAIN])
-}
-
-#[test]
-fn a_sink_that_fails(rt: HostRuntime) -> Result<(), Fail> {
-    let fails = vec![in rt.alloc(); 4u32]?;
-    let (end, sink) = replayed(&rt, &[TRANSACTION], &TRACE, fails)?;
-    assert_eq!(rt; end, Err(ReplayEnd::SinkFailed));
-    assert!(rt; FOUND.as_bytes().starts_with(sink.written()));
-    assert!(rt; sink.written().len() < FOUND.len());
-    Ok(())
-}
-
-#[test]
-fn two_lanes(rt: HostRuntime) -> Result<(), Fail> {
-    let mut scenario = document(&rt, &[TRANSACTION])?;
-    let mut other = document(&rt, &[TRANSACTION])?;
-    let first = last_lane(&rt, &mut scenario.lanes)?;
-    let second = last_lane(&rt, &mut other.lanes)?;
-    let mut works = [first, second];
-    let Ok(mut lanes) = Lanes::open(rt.alloc(), 2, Vec::new(rt.alloc())) else {
-        return Err("memory".into());
-    };
-    let mut texts = Vec::new(rt.alloc());
-    for place in 0..9 {
-        texts.push(TRACE[place])?;
-        texts.push(SECOND[place])?;
+    let last = last_lane(&mut scenario.lanes)?;
+    if scenario.lanes.is_empty() {
+        return check_lanes(rt, &scenario.config, &mut [last], case);
     }
-    let mut replay = Replay::of(trace(&rt, &texts)?);
-    let mut sink = MemorySink::new(rt.alloc(), 4096, Vec::new(rt.alloc())).map_err(|_| "room")?;
-    let end = replay_lanes(
-        &mut lanes,
-        &scenario.config,
-        8,
-        &mut works,
-        &mut replay,
-        &mut sink,
-    );
-    assert_eq!(rt; end, Ok(()));
-    check_written(&rt, &sink, &[BOTH])
+    let first = last_lane(&mut scenario.lanes)?;
+    check_lanes(rt, &scenario.config, &mut [first, last], case)
+}
+
+#[test]
+fn replays_of_purchases(rt: HostRuntime) -> Result<(), Fail> {
+    for case in &CASES {
+        check_case(&rt, case)?;
+    }
+    Ok(())
 }

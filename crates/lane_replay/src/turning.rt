@@ -6,7 +6,7 @@ ghost use Rattle.ep_lanes.specs.Lanes.{count_of, has_open, is_live, lane_of, nex
 ghost use Rattle.ep_lanes.specs.Saying.{is_goes};
 ghost use Rattle.session_phases.specs.Told.{told_by};
 ghost use Rattle.trace_io.specs.Replays.{replaying_of};
-ghost use Rattle.lane_report.specs.Shows.{held_of};
+ghost use Rattle.ep_lanes.specs.Scripted.{held_of};
 ghost use Rattle.lane_replay.specs.Shows.{Fits, IsOpened};
 ghost use Rattle.lane_replay.specs.Turned.{GoesOn, GoesOnPart, HeardLine, LaneCut, LaneTurned, OtherLine, TurnCut, TurnTaken, lines_left};
 
@@ -14,7 +14,7 @@ use crate::opening::begin_next;
 use acquirer_config::Config;
 use ep_base::{Sink, SinkFailed};
 use ep_lanes::{EventList, Lanes, Open, RfFailed, Turned};
-use lane_report::{LaneJobs, write_events};
+use lane_jobs::{LaneJobs, write_events};
 use scenario::Scripts;
 use trace_io::Replay;
 
@@ -87,6 +87,7 @@ fn turn_lane<K: Sink>(
     work: &mut LaneJobs,
     replay: &mut Replay,
     output: &mut K,
+    events: &mut EventList,
 ) -> Result<bool, SinkFailed>
     requires code { fsdi ≤ 8 }
     requires next { next_lane (held_of lanes.old) ≡ Some lane }
@@ -105,11 +106,11 @@ fn turn_lane<K: Sink>(
     ensures count { count_of (held_of lanes.new) ≡ count_of (held_of lanes.old) }
     ensures order { next_of (held_of lanes.old) ≡ Some (lane, (held_of lanes.new).order) }
 {
-    let mut events = EventList::new();
-    let Ok(turned) = hear_next(lane, lanes, replay, &mut events) else {
+    events.clear();
+    let Ok(turned) = hear_next(lane, lanes, replay, events) else {
         return Ok(false);
     };
-    match write_events(lane, work.txn(), &events, output) {
+    match write_events(lane, work.txn(), &*events, output) {
         Ok(()) => {}
         Err(_) => return Err(SinkFailed),
     }
@@ -132,6 +133,7 @@ pub(crate) fn take_turn<K: Sink>(
     works: &mut [LaneJobs],
     replay: &mut Replay,
     output: &mut K,
+    events: &mut EventList,
 ) -> Result<bool, SinkFailed>
     requires code { fsdi ≤ 8 }
     requires next { next_lane (held_of lanes.old) ≡ Some lane }
@@ -149,5 +151,5 @@ pub(crate) fn take_turn<K: Sink>(
     ensures length { length works.new ≡ length works.old }
 {
     let work = &mut works[usize::from(lane) - 1];
-    turn_lane(lane, lanes, config, fsdi, work, replay, output)
+    turn_lane(lane, lanes, config, fsdi, work, replay, output, events)
 }

@@ -6,7 +6,7 @@ use Rattle.ep_rules.specs.EntryPoint.Configuration.{Config}
 use Rattle.ep_base.specs.Air.Heard.{Ask}
 use Rattle.ep_rules.specs.EntryPoint.Kernel.{Scripted}
 use Rattle.ep_rules.specs.EntryPoint.PreProcessing.{prepared}
-use Rattle.ep_rules.specs.EntryPoint.Event.{Said}
+use Rattle.ep_rules.specs.EntryPoint.Event.{Event as EventData}
 use Rattle.ep_rules.specs.EntryPoint.Talk.{Talk}
 use Rattle.ep_claim.specs.Text.WrittenText.{event_lines}
 use Rattle.entry_session.specs.Perfect.{talk_of}
@@ -17,23 +17,12 @@ use Rattle.ep_lanes.specs.Turns.{Tells}
 use Rattle.ep_lanes.specs.declared.exchange.Turned.{Turned}
 use Rattle.ep_lanes.specs.declared.exchange.Turned.TheVariants.{Goes, Ended}
 use Rattle.pre_processing.specs.Preparation.{Preparation}
-use Rattle.scenario.specs.Scene.{Work}
+use Rattle.scenario.specs.Jobs.{job_of, talk_in}
+use Rattle.scenario.specs.Scenario.{Work}
+use Rattle.lane_jobs.proofs.Talks.{same_talk}
 use Rattle.lane_report.specs.Begun.{BegunLane, asked_first, begun_text, closing_text}
 use Rattle.lane_report.specs.Shows.{FitsLane, ShowsLane}
-use Rattle.lane_report.specs.Works.{LaneWork, job_of, jobs_of, preparation, talk_in}
-
-same_preparation : (settings : Config) (w : Work) (p : Preparation) → p.list ≡ prepared settings w.txn_type w.amount → p.txn_type ≡ w.txn_type
-    → p.amount ≡ w.amount
-    → p ≡ preparation settings w
-same_preparation settings w p l t a =
-    ap (λ n. record { txn_type = n; amount = p.amount; list = p.list }) t
-    ∙ ap (λ n. record { txn_type = w.txn_type; amount = n; list = p.list }) a
-    ∙ ap (λ xs. record { txn_type = w.txn_type; amount = w.amount; list = xs }) l
-
--- The talk that is begun is the transaction's.
-pub same_talk : (settings : Config) (w v : Work) (p : Preparation) → w ≡ v
-    → p.list ≡ prepared settings w.txn_type w.amount → p.txn_type ≡ w.txn_type → p.amount ≡ w.amount → talk_of p w.scripts ≡ talk_in settings v
-same_talk settings w v p e l t a = ap (λ q. talk_of q w.scripts) (same_preparation settings w p l t a) ∙ ap (λ (x : Work). talk_in settings x) e
+use Rattle.lane_jobs.specs.Works.{LaneWork, jobs_of}
 
 -- Nothing is asked where the transaction ended, and else something is.
 pub asked_when : (fsdi : ℕ) (talk : Talk) (end : _) → Tells (Ended end) fsdi talk (started talk) → asked_by fsdi (started talk).doing ≡ None
@@ -72,7 +61,7 @@ module _ (lane txn : ℕ) (j : Job) where
   going_passed left rest (Some ask) e = let never : false ≡ true = e in cc
 
 -- The text of a transaction that is begun: the lines of its events, and those of its log where it has ended.
-pub first_text : (settings : Config) (fsdi lane n txn : ℕ) (w v : Work) (p : Preparation) (turned : Turned) (said : List Said) → w ≡ v
+pub first_text : (settings : Config) (fsdi lane n txn : ℕ) (w v : Work) (p : Preparation) (turned : Turned) (said : List EventData) → w ≡ v
     → p.list ≡ prepared settings w.txn_type w.amount → p.txn_type ≡ w.txn_type → p.amount ≡ w.amount → n ≡ txn
     → said ≡ events_of (talk_of p w.scripts) (started (talk_of p w.scripts)) → Tells turned fsdi (talk_of p w.scripts) (started (talk_of p w.scripts))
     → begun_text lane txn (job_of settings v) (asked_first fsdi (job_of settings v)) ≡ event_lines lane n said ++ closing_text turned lane n w.field.log

@@ -1,6 +1,6 @@
 -- What follows once a transaction has ended.
 use Rattle.std.proofs.Common.{◌≡◌, ℕ, ◌+◌, List, ◌++◌, map, sym, ap, subst, ◌∙◌}
-use Rattle.std.specs.Prelude.{Option, Some, Result, Ok, Err, OnOk, OnErr, unwrap_or}
+use Rattle.std.specs.Prelude.{Option, Some, Result, Ok, Err, OnOk, OnErr}
 use Rattle.std.specs.Io.KnownBytes.{Appends}
 use Rattle.ep_rules.specs.EntryPoint.Configuration.{Config}
 use Rattle.ep_base.specs.Cards.Field.{Field}
@@ -16,13 +16,10 @@ use Rattle.ep_lanes.specs.declared.exchange.Turned.{Turned}
 use Rattle.ep_lanes.specs.declared.exchange.Turned.TheVariants.{Ended}
 use Rattle.lane_report.specs.Shows.{ShowsLane}
 use Rattle.lane_report.specs.Turned.{IsAfter, Wrote}
-use Rattle.lane_report.specs.Works.{LaneWork, job_of, jobs_of}
-use Rattle.lane_report.proofs.Appending.{prefix_front, prefix_more}
+use Rattle.scenario.specs.Jobs.{job_of}
+use Rattle.lane_jobs.specs.Works.{LaneWork, jobs_of}
+use Rattle.lane_jobs.proofs.Appending.{prefix_front, prefix_more}
 use Rattle.lane_report.proofs.Beginning.{here}
-
--- What is there is the same.
-pub some_same : {A : Type 0} (x y : A) → Some x ≡ Some y → x ≡ y
-some_same x y e = ap (λ o. unwrap_or o y) e
 
 module _ (settings : Config) (fsdi lane n : ℕ) (work taken : LaneWork) (left : taken.left ≡ work.left) (same : taken.txn ≡ work.txn)
     (number : n ≡ taken.txn)
@@ -90,8 +87,3 @@ module _ (settings : Config) (fsdi lane : ℕ) (held : LaneHeld Scripted) (work 
       subst (λ (p : Piece). AppendsPrefix a w p.text)
       (sym (ended_piece end (subst (λ t. IsAfter settings fsdi held work t g l) is h)))
       (part l.field h.field)
-
--- What holds after an error, and follows from it.
-pub on_err_weaker : {T E P Q : Type 0} (r : Result T E) → (P → Q) → OnErr r P → OnErr r Q
-on_err_weaker (Ok v) f h = tt
-on_err_weaker (Err e) f h = f h

@@ -8,9 +8,10 @@ use Rattle.ep_rules.specs.EntryPoint.Kernel.{Script, steps_left, running_left, r
 use Rattle.ep_rules.specs.EntryPoint.PreProcessing.{prepared, prepared_one}
 use Rattle.law_turns.specs.Growing.{IsShort, IsShortLane, AreShort}
 use Rattle.ep_claim.specs.Lanes.LaneText.{Job}
-use Rattle.scenario.specs.Scene.{Work}
+use Rattle.scenario.specs.Jobs.{job_of, talk_in}
+use Rattle.scenario.specs.Scenario.{Work}
 use Rattle.lane_report.specs.Reports.{IsFew, IsNewWork}
-use Rattle.lane_report.specs.Works.{LaneWork, job_of, talk_in, jobs_of, all_jobs}
+use Rattle.lane_jobs.specs.Works.{LaneWork, jobs_of, all_jobs}
 
 -- Pre-Processing leaves as many Combinations as the configuration has of the type.
 prepared_count : (settings : Config) (txn_type amount : ℕ) → length (prepared settings txn_type amount) ≡ count_of txn_type settings.list

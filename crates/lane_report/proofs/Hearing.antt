@@ -9,11 +9,11 @@ use Rattle.ep_base.specs.Air.Heard.{Ask, Heard}
 use Rattle.ep_base.specs.Streams.Io.{AppendsPrefix}
 use Rattle.ep_rules.specs.EntryPoint.Kernel.{Scripted, scripted}
 use Rattle.ep_base.specs.Air.Medium.{told, AfterReset, ExchangesBy, Exchanges}
-use Rattle.ep_rules.specs.EntryPoint.Event.{Said}
+use Rattle.ep_rules.specs.EntryPoint.Event.{Event as EventData}
 use Rattle.ep_claim.specs.Text.WrittenText.{event_lines}
 use Rattle.ep_claim.specs.Lanes.Exchanges.{Lane, field_answers, or_silence}
 use Rattle.ep_claim.specs.Lanes.Standing.{asked_by, events_of}
-use Rattle.ep_claim.specs.Lanes.LaneText.{Going, Piece, added, goes_on, heard_lane, trace_part}
+use Rattle.ep_claim.specs.Lanes.LaneText.{Going, Piece, added_events, goes_on, heard_lane, trace_part}
 use Rattle.ep_claim.specs.Lanes.WholeRun.{ProbeSteps}
 use Rattle.ep_lanes.specs.Lanes.{Held, LaneHeld, Made, lane_of}
 use Rattle.ep_lanes.specs.Probing.{ProbeAnswers}
@@ -22,9 +22,10 @@ use Rattle.ep_lanes.specs.declared.exchange.Turned.{Turned}
 use Rattle.ep_lanes.proofs.Standing.{asks_then}
 use Rattle.lane_report.specs.Shows.{ShowsGoing, Tells}
 use Rattle.lane_report.specs.Turned.{HeardTurn, IsAfter, TurnWrote, Wrote, heard_by, turn_piece}
-use Rattle.lane_report.specs.Works.{LaneWork, job_of}
-use Rattle.lane_report.proofs.Appending.{whole_next, part_next, part_front}
-use Rattle.lane_report.proofs.Closing.{some_same}
+use Rattle.scenario.specs.Jobs.{job_of}
+use Rattle.lane_jobs.specs.Works.{LaneWork}
+use Rattle.lane_jobs.proofs.Appending.{whole_next, part_next, part_front}
+use Rattle.lane_jobs.proofs.Results.{some_same}
 
 -- What a field answers where it may answer so.
 after_reset : (well : Bool) (ask : Ask) (u t : Field) (h : Heard) → AfterReset (told field) well u ask (Some h) t
@@ -42,7 +43,7 @@ answers_so : (ask : Ask) (f t : Field) (h : Heard) → Exchanges (told field) f 
 answers_so ask f t h e = by_reset ask.reset ask f t h e
 
 module _ {P : Type 0} (answers : ProbeAnswers P) (settings : Config) (traced : Bool) (fsdi lane : ℕ) (before after : Held Scripted) (p q : P)
-    (turned : Turned) (said : List Said) (work heard_work : LaneWork)
+    (turned : Turned) (said : List EventData) (work heard_work : LaneWork)
     (turn : (f : Field) → work.field ≡ Some f → HeardTurn answers lane before f p turned said after heard_work.field q)
     (left : heard_work.left ≡ work.left) (number : heard_work.txn ≡ work.txn) (m : Made) (last : Some m ≡ after.last) (n : ℕ)
     (written_as : n ≡ heard_work.txn)
@@ -96,7 +97,7 @@ module _ {P : Type 0} (answers : ProbeAnswers P) (settings : Config) (traced : B
     left = ap (λ ws. map (job_of settings) ws) left ∙ shows.left;
   }
 
-  said_is : said ≡ added g.talk g.lane.standing then_lane.standing
+  said_is : said ≡ added_events g.talk g.lane.standing then_lane.standing
   said_is =
       sym (drop-append_seam (events_of g.talk g.lane.standing) said)
       ∙ ap (λ l. drop (length (events_of g.talk g.lane.standing)) l) (makes.events g.talk fsdi g.lane.standing shows.stands)
@@ -109,7 +110,7 @@ module _ {P : Type 0} (answers : ProbeAnswers P) (settings : Config) (traced : B
   abbrev pub more : Piece
   more = goes_on fsdi lane g then_lane (asked_by fsdi then_lane.standing.doing)
 
-  front_is : front ≡ trace_part traced lane ask m.heard ++ event_lines lane g.txn (added g.talk g.lane.standing then_lane.standing)
+  front_is : front ≡ trace_part traced lane ask m.heard ++ event_lines lane g.txn (added_events g.talk g.lane.standing then_lane.standing)
   front_is =
       ap (λ k. trace_part traced k m.asked m.heard ++ event_lines k n said) of_lane
       ∙ ap (λ (a : Ask). trace_part traced lane a m.heard ++ event_lines lane n said) ask_is
@@ -118,7 +119,7 @@ module _ {P : Type 0} (answers : ProbeAnswers P) (settings : Config) (traced : B
 
   whole_is : (turn_piece traced fsdi lane g ask m.heard).text ≡ front ++ more.text
   whole_is =
-      sym (append_assoc (trace_part traced lane ask m.heard) (event_lines lane g.txn (added g.talk g.lane.standing then_lane.standing)) more.text)
+      sym (append_assoc (trace_part traced lane ask m.heard) (event_lines lane g.txn (added_events g.talk g.lane.standing then_lane.standing)) more.text)
       ∙ ap (λ l. l ++ more.text) (sym front_is)
 
   pub turn_wrote : (held : LaneHeld Scripted) (next : LaneWork) (a b w : Option (List ℕ)) → Appends a b front → Wrote settings fsdi held next b w more

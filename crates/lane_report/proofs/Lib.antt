@@ -1,12 +1,8 @@
-pub mod Appending
 pub mod Beginning
 pub mod Closing
 pub mod Few
 pub mod Hearing
-pub mod Numbering
 pub mod Opened
-pub mod Places
 pub mod Reporting
 pub mod Running
 pub mod Steps
-pub mod Texts

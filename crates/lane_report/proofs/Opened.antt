@@ -1,26 +1,21 @@
 -- Lanes that are opened one after another.
 use Rattle.std.proofs.Common.{◌≡◌, ◌≢◌, ⊎_elim, ℕ, ◌+◌, ◌-◌, ◌<◌, ◌≤◌, true, List, [], ◌++◌, length, drop, get_or, slice_set, replicate, All, Option, rules, refl, sym, ap, subst, ◌∙◌, arith}
 use Rattle.std.proofs.lemmas.Bool.Decides.{eqb_tells, leb_tells}
-use Rattle.std.proofs.lemmas.List.{get_or-replicate, length-replicate, get_or-map, drop_more, drop_all, length-map}
+use Rattle.std.proofs.lemmas.List.{length-replicate, get_or-map, drop_more, drop_all, length-map}
 use Rattle.std.proofs.lemmas.List.Elements.{All-get_or}
 use Rattle.ep_rules.specs.EntryPoint.Configuration.{Config}
 use Rattle.ep_rules.specs.EntryPoint.Kernel.{Scripted}
 use Rattle.ep_lanes.specs.Lanes.{LaneHeld, Held, no_lane, new_lane, lane_of, count_of, new_lanes}
-use Rattle.ep_lanes.proofs.Numbering.{placed, past_all}
+use Rattle.ep_lanes.proofs.Numbering.{new_at, placed, past_all}
 use Rattle.ep_claim.specs.Lanes.LaneText.{opens}
 use Rattle.ep_claim.specs.Lanes.WholeRun.{opening_text, opened_run}
 use Rattle.law_turns.proofs.Owning.{opening_going}
 use Rattle.lane_report.specs.Reports.{IsNewWork}
 use Rattle.lane_report.specs.Shows.{ShowsLane, Shows, FitsLane, Fits}
-use Rattle.lane_report.specs.Works.{LaneWork, no_work, work_of, jobs_of, all_jobs}
-use Rattle.lane_report.specs.Written.{with_text}
-use Rattle.lane_report.proofs.Numbering.{work_past, item_is, work_here, work_elsewhere, jobs_by_number}
-use Rattle.lane_report.proofs.Places as place
-
--- a lane that is new
-pub new_at : {S : Type 0} (count : ℕ) (turns : List ℕ) (n : ℕ) → 1 ≤ n → n ≤ count → lane_of {S = S} (new_lanes count turns) n ≡ new_lane
-new_at count turns n least most =
-    placed (replicate count new_lane) n least ∙ get_or-replicate count (n - 1) new_lane no_lane (omega (arith, least, most))
+use Rattle.lane_jobs.specs.Works.{LaneWork, no_work, work_of, jobs_of, all_jobs}
+use Rattle.lane_jobs.specs.Written.{with_text}
+use Rattle.lane_jobs.proofs.Numbering.{work_past, item_is, work_here, work_elsewhere, jobs_by_number}
+use Rattle.lane_jobs.proofs.Places as place
 
 -- a lane shows what these transactions of it come to once they are opened
 abbrev pub ShowsBegun : Config → (fsdi lane : ℕ) → LaneHeld Scripted → (work todo : LaneWork) → Type 0

@@ -13,8 +13,8 @@ use Rattle.law_turns.proofs.Growing.{texts_grow_law, runs_end_in_most_law}
 use Rattle.lane_report.specs.Made.{ShownRun, TurnsMade, TurnsCut}
 use Rattle.lane_report.specs.Reports.{IsNewWork, LanesOpened, Reports, ReportsPart}
 use Rattle.lane_report.specs.Shows.{ReportState, Tells}
-use Rattle.lane_report.specs.Works.{LaneWork, all_jobs}
-use Rattle.lane_report.proofs.Appending.{prefix_front, wrote_since}
+use Rattle.lane_jobs.specs.Works.{LaneWork, all_jobs}
+use Rattle.lane_jobs.proofs.Appending.{prefix_front, wrote_since}
 use Rattle.lane_report.proofs.Few.{all_short, all_count}
 
 -- the lanes, what they have to do, and the bytes written, beside a probe's state

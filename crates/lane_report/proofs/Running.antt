@@ -15,14 +15,15 @@ use Rattle.ep_claim.specs.Lanes.WholeRun.{ProbeSteps, Run, run_step, opened_run,
 use Rattle.ep_claim.specs.Lanes.WholeRun as runs
 use Rattle.law_turns.proofs.Growing.{texts_grow_law, runs_end_in_most_law}
 use Rattle.law_turns.proofs.Stepping.{times_end}
+use Rattle.lane_report.specs.declared.run.TheConstants.{MOST_EXCHANGES}
 use Rattle.lane_report.specs.Made.{ShownRun, EndCut, TurnsMade, TurnsCut}
 use Rattle.lane_report.specs.Shows.{ReportState, ShowsLane, Shows, Tells}
 use Rattle.lane_report.specs.Turned.{TurnCut, TurnTaken}
-use Rattle.lane_report.specs.Works.{LaneWork}
-use Rattle.lane_report.proofs.Appending.{prefix_front}
+use Rattle.lane_jobs.specs.Works.{LaneWork}
+use Rattle.lane_jobs.proofs.Appending.{prefix_front}
 
 -- the number that the code has
-pub most_number : most_exchanges ≡ 6928361472
+pub most_number : most_exchanges ≡ MOST_EXCHANGES
 unfolding most_exchanges most_of_one
 most_number = refl
 

@@ -9,21 +9,17 @@ use Rattle.ep_rules.specs.EntryPoint.Kernel.{Scripted, scripted}
 use Rattle.ep_claim.specs.Lanes.Standing.{asked_by}
 use Rattle.ep_claim.specs.Lanes.LaneText.{Going, Piece}
 use Rattle.ep_claim.specs.Lanes.Order.{Order, next_turn}
-use Rattle.ep_claim.specs.Lanes.WholeRun.{ProbeSteps, Run, asks, run_step, takes_turn, turn_of}
+use Rattle.ep_claim.specs.Lanes.WholeRun.{ProbeSteps, Run, makes_exchange, run_step, takes_turn, turn_of}
 use Rattle.ep_claim.specs.Lanes.WholeRun as runs
 use Rattle.ep_lanes.specs.Lanes.{Held, LaneHeld, OpenTransaction, count_of, is_live, lane_of, next_lane, next_of}
 use Rattle.ep_lanes.specs.Probing.{ProbeAnswers}
 use Rattle.ep_lanes.proofs.Numbering.{live_there}
-use Rattle.ep_lanes.proofs.Ordering.{same_turn, tells_live}
+use Rattle.ep_lanes.proofs.Ordering.{next_live, same_turn}
 use Rattle.ep_lanes.proofs.Standing.{asks_then}
 use Rattle.lane_report.specs.Shows.{Fits, FitsLane, ReportState, Shows, ShowsGoing, ShowsLane}
 use Rattle.lane_report.specs.Turned.{LaneCut, LaneTurned, TurnCut, TurnTaken, TurnWrote, heard_by, turn_piece}
-use Rattle.lane_report.specs.Works.{LaneWork, work_of}
-use Rattle.lane_report.proofs.Appending.{with_more, wrote_since, prefix_more}
-
--- The lane whose turn it is, is live.
-pub next_live : (h : Held Scripted) (lane : ℕ) → next_lane h ≡ Some lane → is_live h lane ≡ true
-next_live h lane e = tells_live h (Some lane) (sym e)
+use Rattle.lane_jobs.specs.Works.{LaneWork, work_of}
+use Rattle.lane_jobs.proofs.Appending.{with_more, wrote_since, prefix_more}
 
 -- It is one of those that have something to do.
 pub next_there : (h : Held Scripted) (works : List LaneWork) (lane : ℕ) → Fits h works → next_lane h ≡ Some lane → (1 ≤ lane) × (lane ≤ length works)
@@ -62,14 +58,14 @@ module _ {P : Type 0} (settings : Config) (traced : Bool) (fsdi lane : ℕ) (bef
   -- what holds of the exchange of the lane whose turn it is, holds of the run's
   module _ (Q : Run P → Type 0)
       (each : (g : Going) → ShowsGoing settings fsdi (lane_of before.lanes lane) (work_of before.works lane) g → (ask : Ask)
-      → asked_by fsdi g.lane.standing.doing ≡ Some ask → Q (asks traced steps fsdi lane order g (Some ask) run)) where
+      → asked_by fsdi g.lane.standing.doing ≡ Some ask → Q (makes_exchange traced steps fsdi lane order g (Some ask) run)) where
     by_going : (o : Option Going) → run.lanes lane ≡ o → Q (turn_of traced steps fsdi lane order o run)
     by_going None e = let never : true ≡ false = sym live ∙ same_live lane ∙ ap is_some e in cc
     by_going (Some g) e =
         let shown : ShowsGoing settings fsdi (lane_of before.lanes lane) (work_of before.works lane) g =
         subst (λ o. ShowsLane settings fsdi (lane_of before.lanes lane) (work_of before.works lane) o) e (shows.each lane) in
         let asked = asked_of settings fsdi (lane_of before.lanes lane) (work_of before.works lane) g shown in
-        subst (λ (a : Option Ask). Q (asks traced steps fsdi lane order g a run)) (sym asked.1) (each g shown asked.0 asked.1)
+        subst (λ (a : Option Ask). Q (makes_exchange traced steps fsdi lane order g a run)) (sym asked.1) (each g shown asked.0 asked.1)
 
     pub of_turn : Q (run_step traced steps fsdi (length before.works) run)
     of_turn = subst (λ t. Q (takes_turn traced steps fsdi t run)) (sym run_turn) (by_going (run.lanes lane) refl)
@@ -108,7 +104,7 @@ module _ {P : Type 0} (settings : Config) (traced : Bool) (fsdi lane : ℕ) (bef
         (subst (λ (w : LaneWork). ShowsLane settings fsdi (lane_of before.lanes k) w (run.lanes k)) (sym (other_works k x.1)) (shows.each k))))
         (eqb_tells k lane)
 
-    pub shows_after : Shows settings fsdi start after (asks traced steps fsdi lane order g (Some ask) run)
+    pub shows_after : Shows settings fsdi start after (makes_exchange traced steps fsdi lane order g (Some ask) run)
     shows_after = record {
       each = each_after;
       order = order_is;
@@ -119,7 +115,7 @@ module _ {P : Type 0} (settings : Config) (traced : Bool) (fsdi lane : ℕ) (bef
   -- a first part of its piece
   pub part_after : (g : Going) (ask : Ask) (written : Option (List ℕ))
       → AppendsPrefix before.written written (turn_piece traced fsdi lane g ask (heard_by steps before.probe lane g ask).1).text
-      → AppendsPrefix start written (asks traced steps fsdi lane order g (Some ask) run).text
+      → AppendsPrefix start written (makes_exchange traced steps fsdi lane order g (Some ask) run).text
   part_after g ask written part =
       prefix_more start before.written written run.text _ (wrote_since start before.written run.text shows.text)
       (subst (λ p. AppendsPrefix before.written written (turn_piece traced fsdi lane g ask (heard_by steps p lane g ask).1).text) shows.probe part)

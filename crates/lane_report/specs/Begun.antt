@@ -10,8 +10,9 @@ use Rattle.ep_lanes.specs.Lanes.{LaneHeld}
 use Rattle.ep_lanes.specs.Turns.{Stands}
 use Rattle.ep_lanes.specs.declared.exchange.Turned.{Turned}
 use Rattle.ep_lanes.specs.declared.exchange.Turned.TheVariants.{Goes, Ended}
-use Rattle.scenario.specs.Scene.{Work}
-use Rattle.lane_report.specs.Works.{LaneWork, job_of, talk_in}
+use Rattle.scenario.specs.Jobs.{job_of, talk_in}
+use Rattle.scenario.specs.Scenario.{Work}
+use Rattle.lane_jobs.specs.Works.{LaneWork}
 
 -- What a transaction that ended writes of its log (this project's own).
 abbrev pub closing_text : Turned → (lane txn : ℕ) → List (ℕ × List ℕ) → List ℕ

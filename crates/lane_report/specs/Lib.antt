@@ -3,5 +3,3 @@ pub mod Made
 pub mod Reports
 pub mod Shows
 pub mod Turned
-pub mod Works
-pub mod Written

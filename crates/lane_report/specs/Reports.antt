@@ -3,15 +3,16 @@ use Rattle.std.specs.Prelude.{◌≡◌, ℕ, ◌≤◌, All, Bool, List, length
 use Rattle.std.specs.Io.KnownBytes.{Appends}
 use Rattle.ep_rules.specs.EntryPoint.Configuration.{Config, count_of}
 use Rattle.ep_base.specs.Streams.Io.{AppendsPrefix}
+use Rattle.ep_base.specs.declared.limits.TheConstants.{TYPE_COMBINATIONS}
 use Rattle.ep_rules.specs.EntryPoint.Kernel.{Script}
 use Rattle.ep_rules.specs.EntryPoint.KernelCommands.{ScriptedSends}
 use Rattle.ep_claim.specs.Lanes.Ending.{HasEnded}
 use Rattle.ep_claim.specs.Lanes.LaneText.{Job}
 use Rattle.ep_claim.specs.Lanes.WholeRun.{ProbeSteps, opened_run, run_after}
 use Rattle.ep_lanes.specs.Probing.{ProbeAnswers}
-use Rattle.scenario.specs.Scene.{Work}
+use Rattle.scenario.specs.Scenario.{Work}
 use Rattle.lane_report.specs.Shows.{ReportState, Shows, Tells}
-use Rattle.lane_report.specs.Works.{LaneWork, all_jobs}
+use Rattle.lane_jobs.specs.Works.{LaneWork, all_jobs}
 
 -- A run is over after some count of exchanges; this is its text then, and this the probe's state (this project's own).
 pub record HasRun {P : Type 0} (traced : Bool) (steps : ProbeSteps P) (fsdi : ℕ) (turns : List ℕ) (p : P) (lanes : List (List Job))
@@ -28,7 +29,7 @@ pub record IsFew (settings : Config) (w : Work) : Type 0 where
   pub rests : w.scripts.running ≡ None
   pub scripts : length w.scripts.scripts ≤ 4
   pub steps : All (λ (s : Script). length s.steps ≤ 16) w.scripts.scripts
-  pub combinations : count_of w.txn_type settings.list ≤ 16
+  pub combinations : count_of w.txn_type settings.list ≤ TYPE_COMBINATIONS
 
 -- A lane before its first transaction, of which there are at most 64, each of them so (this project's profile).
 pub record IsNewWork (settings : Config) (work : LaneWork) : Type 0 where

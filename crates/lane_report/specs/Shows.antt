@@ -3,20 +3,13 @@ use Rattle.std.specs.Prelude.{◌≡◌, ℕ, true, List, length, Option, Some, 
 use Rattle.ep_rules.specs.EntryPoint.Configuration.{Config}
 use Rattle.ep_base.specs.Air.Heard.{Ask, Heard}
 use Rattle.ep_rules.specs.EntryPoint.Kernel.{Scripted, scripted}
-use Rattle.ep_lanes.specs.Lanes.{LaneHeld, Held, no_lane, lane_of, lanes_of, count_of}
+use Rattle.ep_lanes.specs.Lanes.{LaneHeld, Held, no_lane, lane_of, count_of}
 use Rattle.ep_lanes.specs.Probing.{ProbeAnswers}
 use Rattle.ep_lanes.specs.Turns.{Stands}
-use Rattle.ep_lanes.specs.declared.holding.Lanes.{Lanes}
-use Rattle.kernel_port.specs.Scripts.{scripted_of}
-use Rattle.kernel_port.specs.declared.scripts.Scripts.{Scripts}
 use Rattle.ep_claim.specs.Lanes.LaneText.{Going}
 use Rattle.ep_claim.specs.Lanes.WholeRun.{ProbeSteps, Run}
-use Rattle.lane_report.specs.Works.{LaneWork, work_of, jobs_of}
-use Rattle.lane_report.specs.Written.{with_text}
-
--- Lanes whose kernels follow scripts, in plain data (this project's own).
-abbrev pub held_of : {b : _} → Lanes Scripts b → Held Scripted
-held_of lanes = lanes_of scripted_of (λ s. s.active) (λ s. s.fresh) lanes
+use Rattle.lane_jobs.specs.Works.{LaneWork, work_of, jobs_of}
+use Rattle.lane_jobs.specs.Written.{with_text}
 
 -- A lane shows one that has an exchange left: its open transaction stands where that one stands, over the field that was left so, and its number and
 -- the transactions after it are the same (this project's own).

@@ -7,7 +7,7 @@ use Rattle.ep_base.specs.Air.Heard.{Ask, Heard}
 use Rattle.ep_base.specs.Streams.Io.{AppendsPrefix}
 use Rattle.ep_rules.specs.EntryPoint.Kernel.{Scripted, scripted}
 use Rattle.ep_base.specs.Air.Medium.{told}
-use Rattle.ep_rules.specs.EntryPoint.Event.{Said}
+use Rattle.ep_rules.specs.EntryPoint.Event.{Event as EventData}
 use Rattle.ep_claim.specs.Lanes.Exchanges.{Lane, field_answers, or_silence}
 use Rattle.ep_claim.specs.Lanes.Standing.{asked_by}
 use Rattle.ep_claim.specs.Lanes.LaneText.{Going, Piece, after_text, goes_on, heard_lane, piece_of, trace_part}
@@ -17,10 +17,10 @@ use Rattle.ep_lanes.specs.Probing.{ProbeAnswers}
 use Rattle.ep_lanes.specs.Turns as turns
 use Rattle.ep_lanes.specs.declared.exchange.Turned.{Turned}
 use Rattle.lane_report.specs.Shows.{ReportState, Shows, ShowsGoing, ShowsLane, Tells}
-use Rattle.lane_report.specs.Works.{LaneWork, jobs_of}
+use Rattle.lane_jobs.specs.Works.{LaneWork, jobs_of}
 
 -- One turn of this lane over the field of its open transaction, which is left so (this project's own).
-pub record HeardTurn {P : Type 0} (answers : ProbeAnswers P) (lane : ℕ) (before : Held Scripted) (f : Field) (p : P) (turned : Turned) (said : List Said)
+pub record HeardTurn {P : Type 0} (answers : ProbeAnswers P) (lane : ℕ) (before : Held Scripted) (f : Field) (p : P) (turned : Turned) (said : List EventData)
     (after : Held Scripted) (left : Option Field) (q : P) : Type 0 where
   pub field_then : Field
   pub left_is : left ≡ Some field_then

@@ -7,9 +7,6 @@ mod run;
 #[cfg(test)]
 mod tests;
 mod turning;
-mod works;
 mod writing;
 
 pub use run::report_lanes;
-pub use works::{LaneJobs, works_of};
-pub use writing::write_events;

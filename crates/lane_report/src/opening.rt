@@ -6,14 +6,16 @@ ghost use Rattle.ep_base.specs.Streams.Io.{AppendsPrefix};
 ghost use Rattle.ep_lanes.specs.Lanes.{count_of, has_open, is_live, lane_of};
 ghost use Rattle.ep_claim.specs.Lanes.LaneText.{opens};
 ghost use Rattle.lane_report.specs.Begun.{BegunLane, asked_first, begun_text};
-ghost use Rattle.lane_report.specs.Shows.{FitsLane, ShowsLane, held_of};
-ghost use Rattle.lane_report.specs.Works.{job_of, jobs_of};
+ghost use Rattle.lane_report.specs.Shows.{FitsLane, ShowsLane};
+ghost use Rattle.ep_lanes.specs.Scripted.{held_of};
+ghost use Rattle.scenario.specs.Jobs.{job_of};
+ghost use Rattle.lane_jobs.specs.Works.{jobs_of};
 
-use crate::works::LaneJobs;
-use crate::writing::{write_closing, write_events};
+use crate::writing::write_closing;
 use acquirer_config::Config;
 use ep_base::{Sink, SinkFailed};
 use ep_lanes::{EventList, Lanes, Turned};
+use lane_jobs::{LaneJobs, write_events};
 use pre_processing::prepare;
 use scenario::{Job, Scripts};
 

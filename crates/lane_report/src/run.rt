@@ -6,19 +6,23 @@ ghost use Rattle.ep_lanes.specs.Lanes.{new_lanes};
 ghost use Rattle.ep_claim.specs.Lanes.WholeRun.{opening_text};
 ghost use Rattle.lane_report.specs.Made.{TurnsCut, TurnsMade};
 ghost use Rattle.lane_report.specs.Reports.{IsNewWork, LanesOpened, Reports, ReportsPart};
-ghost use Rattle.lane_report.specs.Shows.{held_of, Fits};
-ghost use Rattle.lane_report.specs.Works.{all_jobs};
+ghost use Rattle.lane_report.specs.Shows.{Fits};
+ghost use Rattle.ep_lanes.specs.Scripted.{held_of};
+ghost use Rattle.lane_jobs.specs.Works.{all_jobs};
 
 use crate::opening::begin_next;
 use crate::turning::take_turn;
-use crate::works::LaneJobs;
 use acquirer_config::Config;
-use ep_base::{Sink, SinkFailed};
-use ep_lanes::{Lanes, Probe};
+use ep_base::{COMMAND_EXCHANGES, PAIRS, START_EXCHANGES, Sink, SinkFailed};
+use ep_lanes::{EventList, Lanes, Probe};
+use lane_jobs::LaneJobs;
 use scenario::Scripts;
 
+// The most exchanges of one transaction: those of its most commands, and of five Start Bs.
+const MOST_OF_ONE: u64 = (COMMAND_EXCHANGES * (5 * (1 + PAIRS) + 64) + 5 * START_EXCHANGES) as u64;
+
 // The most exchanges of at most 8 lanes of at most 64 transactions, each of at most 16 Combinations, 4 scripts and 64 steps.
-const MOST_EXCHANGES: u64 = 6_928_361_472;
+const MOST_EXCHANGES: u64 = 512 * MOST_OF_ONE;
 
 /// The report of at most 8 lanes as they run: first the lanes are opened in rising order, and then each turn makes one
 /// exchange of one lane, until no lane has one left. Where `traced`, the trace line of each exchange comes before its events.
@@ -108,11 +112,22 @@ fn make_turns<K: Sink, P: Probe>(
     ensures told { is_some (K.written output.new) ≡ is_some (K.written output.old) }
     ensures cause { HasCause (K.faults output.old) (K.faults output.new) (IsErr result) }
 {
+    let mut events = EventList::new();
     for _made in 0..MOST_EXCHANGES {
         let Some(lane) = lanes.next() else {
             return Ok(());
         };
-        match take_turn(lane, lanes, config, fsdi, traced, works, output, probe) {
+        match take_turn(
+            lane,
+            lanes,
+            config,
+            fsdi,
+            traced,
+            works,
+            output,
+            probe,
+            &mut events,
+        ) {
             Ok(()) => {}
             Err(_) => return Err(SinkFailed),
         }

@@ -5,14 +5,15 @@ ghost use Rattle.ep_rules.specs.EntryPoint.Configuration.{IsCombination};
 ghost use Rattle.ep_lanes.specs.Lanes.{new_lanes};
 ghost use Rattle.rf_field.specs.Plans.{PlanFits};
 ghost use Rattle.lane_report.specs.Reports.{IsFew, IsNewWork};
-ghost use Rattle.lane_report.specs.Shows.{held_of};
+ghost use Rattle.ep_lanes.specs.Scripted.{held_of};
 
-use crate::{LaneJobs, report_lanes, works_of};
+use crate::report_lanes;
 use acquirer_config::{Combination, Config};
 use arrayvec::ArrayVec;
 use card_image::CardImage;
 use ep_base::{Buf, MemorySink};
 use ep_lanes::{Lanes, Open};
+use lane_jobs::{LaneJobs, works_of};
 use rf_field::{APlan, CardPlan};
 use scenario::{Field, Job, Scripts};
 use std::alloc::Global;

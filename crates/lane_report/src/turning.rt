@@ -10,16 +10,17 @@ ghost use Rattle.ep_lanes.specs.Lanes.{count_of, has_open, is_live, lane_of, nex
 ghost use Rattle.ep_lanes.specs.Saying.{is_goes};
 ghost use Rattle.ep_claim.specs.Lanes.LaneText.{after_text, opens};
 ghost use Rattle.session_phases.specs.Told.{told_by};
-ghost use Rattle.lane_report.specs.Shows.{Fits, FitsLane, held_of};
+ghost use Rattle.lane_report.specs.Shows.{Fits, FitsLane};
+ghost use Rattle.ep_lanes.specs.Scripted.{held_of};
 ghost use Rattle.lane_report.specs.Turned.{GoesOn, GoesOnPart, HeardTurn, LaneCut, LaneTurned, TurnCut, TurnTaken, Wrote};
-ghost use Rattle.lane_report.specs.Works.{jobs_of};
+ghost use Rattle.lane_jobs.specs.Works.{jobs_of};
 
 use crate::opening::begin_next;
-use crate::works::LaneJobs;
-use crate::writing::{write_exchange, write_log};
+use crate::writing::write_exchange;
 use acquirer_config::Config;
 use ep_base::{Sink, SinkFailed};
 use ep_lanes::{EventList, Lanes, Probe, Turned};
+use lane_jobs::{LaneJobs, write_log};
 use scenario::Scripts;
 
 // Makes the next exchange, which is one of this lane, over the field of its open transaction. A field never fails.
@@ -124,7 +125,7 @@ fn go_on<K: Sink>(
     }
 }
 
-// The turn of this lane, with what it has to do.
+// The turn of this lane, with what it has to do. Its events are written in place of those of the turn before.
 //
 // Errors: the sink failed; a first part of the lines was written.
 fn turn_lane<K: Sink, P: Probe>(
@@ -136,6 +137,7 @@ fn turn_lane<K: Sink, P: Probe>(
     work: &mut LaneJobs,
     output: &mut K,
     probe: &mut P,
+    events: &mut EventList,
 ) -> Result<(), SinkFailed>
     requires code { fsdi ≤ 8 }
     requires next { next_lane (held_of lanes.old) ≡ Some lane }
@@ -154,12 +156,12 @@ fn turn_lane<K: Sink, P: Probe>(
     ensures count { count_of (held_of lanes.new) ≡ count_of (held_of lanes.old) }
     ensures order { next_of (held_of lanes.old) ≡ Some (lane, (held_of lanes.new).order) }
 {
-    let mut events = EventList::new();
-    let turned = hear_next(lane, lanes, work, probe, &mut events);
+    events.clear();
+    let turned = hear_next(lane, lanes, work, probe, events);
     let Some(made) = lanes.last() else {
         unreachable!()
     };
-    match write_exchange(traced, made, work.txn(), &events, output) {
+    match write_exchange(traced, made, work.txn(), &*events, output) {
         Ok(()) => go_on(lane, lanes, config, fsdi, turned, work, output),
         Err(_) => Err(SinkFailed),
     }
@@ -167,7 +169,7 @@ fn turn_lane<K: Sink, P: Probe>(
 
 /// Takes the next turn, which is one of this lane: makes its exchange over the field of its open transaction, and writes
 /// its trace line, where a trace is wanted, and its events. Where the transaction ended its log follows, and the lane's
-/// next transaction is opened.
+/// next transaction is opened. Its events are written in place of those of the turn before.
 ///
 /// Errors: the sink failed; a first part of the lines was written.
 pub(crate) fn take_turn<K: Sink, P: Probe>(
@@ -179,6 +181,7 @@ pub(crate) fn take_turn<K: Sink, P: Probe>(
     works: &mut [LaneJobs],
     output: &mut K,
     probe: &mut P,
+    events: &mut EventList,
 ) -> Result<(), SinkFailed>
     requires code { fsdi ≤ 8 }
     requires next { next_lane (held_of lanes.old) ≡ Some lane }
@@ -195,5 +198,7 @@ pub(crate) fn take_turn<K: Sink, P: Probe>(
     ensures length { length works.new ≡ length works.old }
 {
     let work = &mut works[usize::from(lane) - 1];
-    turn_lane(lane, lanes, config, fsdi, traced, work, output, probe)
+    turn_lane(
+        lane, lanes, config, fsdi, traced, work, output, probe, events,
+    )
 }

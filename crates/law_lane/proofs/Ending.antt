@@ -1,20 +1,21 @@
 -- A transaction over a field comes to an end, and keeps to the perfect run: by recursion on what is left of its talk.
 use Rattle.std.proofs.Common.{◌≡◌, ◌⊎◌, inl, inr, ℕ, ◌+◌, ◌-◌, ◌<◌, ◌≤◌, Bool, true, false, List, [], ◌∷◌, ◌++◌, length, refl, sym, ap, subst, ◌∙◌, append_assoc, append-nil, arith, Option, Some, None}
+use Rattle.ep_base.specs.declared.limits.TheConstants.{ROUND_EXCHANGES}
 use Rattle.ep_base.specs.Air.Heard.{Activated, Heard, RoundEnd, Goes}
 use Rattle.ep_base.specs.Poll.Round.{Waking}
 use Rattle.ep_base.specs.Link.Block.{Deselect}
 use Rattle.ep_base.specs.Cards.Apdu.{is_command}
-use Rattle.ep_rules.specs.EntryPoint.Event.{Told, Ending}
+use Rattle.ep_rules.specs.EntryPoint.Event.{OwnEvent, Ending}
 use Rattle.ep_rules.specs.EntryPoint.Talk.{Talk, Over, Say, Poll, Command, Close, Result, Round, Response, Closed, so_far, is_found, IsLegal, ends_of}
 use Rattle.ep_base.specs.Cards.CardAnswer.{Image, card_answer}
 use Rattle.ep_base.specs.Air.Medium.{told}
 use Rattle.ep_base.specs.Poll.Polling.{PlaysRound}
-use Rattle.ep_base.specs.Link.ReaderEnd.{Reader, Turn, Asks, Gives, Spends, Breaks, begin}
+use Rattle.ep_base.specs.Link.ReaderEnd.{Reader, ReaderTurn, Asks, Gives, Spends, Breaks, begin}
 use Rattle.ep_base.specs.Link.Carry.{Follows}
 use Rattle.ep_base.specs.Cards.Field.{Field, field}
 use Rattle.ep_base.specs.Poll.Radio.{OpenLink, Radio, Comes}
 use Rattle.ep_rules.specs.EntryPoint.TransportRun.{HearEnd, Whole, AtLink}
-use Rattle.ep_rules.specs.EntryPoint.Perfect.{Channel, Perfect, channel, presents, perfect, at_command, gave, executes}
+use Rattle.ep_rules.specs.EntryPoint.Perfect.{Channel, Perfect, channel, presents, perfect, at_command, gave, with_command}
 use Rattle.ep_rules.specs.EntryPoint.Bounds.{AtMost}
 use Rattle.law_wire.proofs.Limits.{images_keep}
 use Rattle.law_round.specs.Acting.{party_at}
@@ -109,7 +110,7 @@ module _ (number_of : Activated → ℕ) (Q : Type 0) (fsdi : ℕ) (start : Talk
     keeps = λ later. ([], sym (append-nil f.log), record { results = refl; executed = refl; over = refl });
   }
 
-  say_ends : (x : Told) (next : Talk) → Ends next → Ends (Say x next)
+  say_ends : (x : OwnEvent) (next : Talk) → Ends next → Ends (Say x next)
   say_ends x next again found m results link f ch w k b legal closes most =
       let r = again found m results link f ch w k b legal closes most in
       record {
@@ -144,7 +145,7 @@ module _ (number_of : Activated → ℕ) (Q : Type 0) (fsdi : ℕ) (start : Talk
       let now = results ++ Round e ∷ [] in
       let r = again e (is_found e) m now (link_by fsdi e) g c (wish_next results (Round e) (Poll next) (next e) w (λ more. refl)) after.knows after.link (legal e) (closes e) (most e) in
       let there = standing start now (link_by fsdi e) in
-      let moves = plays_lead fsdi start results 11 (Goes Waking) f g e x.2 in
+      let moves = plays_lead fsdi start results ROUND_EXCHANGES (Goes Waking) f g e x.2 in
       record {
         heard = Round e ∷ r.heard;
         ending = r.ending;
@@ -198,7 +199,7 @@ module _ (number_of : Activated → ℕ) (Q : Type 0) (fsdi : ℕ) (start : Talk
 
   abbrev run_of : List ℕ → (List ℕ → Talk) → List RoundEnd → Channel Image → ℕ → Image → Perfect
   run_of c next es ch k i =
-      executes k c (gave (Response (card_answer i c).0.response) (perfect (one number_of) (next (card_answer i c).0.response) es (answered_channel ch k i c)))
+      with_command k c (gave (Response (card_answer i c).0.response) (perfect (one number_of) (next (card_answer i c).0.response) es (answered_channel ch k i c)))
 
   run_is : (c : List ℕ) (next : List ℕ → Talk) (es : List RoundEnd) (ch : Channel Image) (i : Image) → ch.presented ≡ Some i.number → ch.images i.number ≡ i
       → perfect (one number_of) (Command c next) es ch ≡ run_of c next es ch i.number i
@@ -211,7 +212,7 @@ module _ (number_of : Activated → ℕ) (Q : Type 0) (fsdi : ℕ) (start : Talk
     some : 0 < m
     legal : (r : List ℕ) → IsLegal is_command found (next r)
     closes : (r : List ℕ) → ClosesFound found (next r)
-    most : (r : List ℕ) → length r ≤ 258 → AtMost (m - 1) (next r)
+    most : (r : List ℕ) → AtMost (m - 1) (next r)
 
   module _ (c : List ℕ) (next : List ℕ → Talk) (found : Bool) (m : ℕ) (results : List Result) (l : OpenLink) (f : Field) (ch : Channel Image)
       (w : Wishes results (Command c next)) (k : Knows number_of Q m f ch.images) (b : HasCard number_of Q m f ch l) (x : Sends m found c next) where
@@ -221,7 +222,7 @@ module _ (number_of : Activated → ℕ) (Q : Type 0) (fsdi : ℕ) (start : Talk
     abbrev begun : Reader
     begun = begin l.set.frames.card c l.reader
 
-    sent : (hs : List Heard) (turn : Turn) (g : Field) → length hs ≤ command_most → Follows (told field) l.set hs begun f turn g
+    sent : (hs : List Heard) (turn : ReaderTurn) (g : Field) → length hs ≤ command_most → Follows (told field) l.set hs begun f turn g
         → LeadsIn fsdi start command_most (standing start results (Some l)) f (after_turn start results l.set turn) g
     sent hs turn g few follows =
         let moves = follows_lead fsdi start results l.set hs begun f g turn follows in
@@ -235,7 +236,7 @@ module _ (number_of : Activated → ℕ) (Q : Type 0) (fsdi : ℕ) (start : Talk
         let d = answered_channel ch card_image.number card_image c in
         let on : OpenLink = record { set = l.set; reader = q } in
         let now = results ++ Response a ∷ [] in
-        let r = again a found (m - 1) now (Some on) g d (wish_next results (Response a) (Command c next) (next a) w (λ more. refl)) after.knows after.card (x.legal a) (x.closes a) (x.most a after.short) in
+        let r = again a found (m - 1) now (Some on) g d (wish_next results (Response a) (Command c next) (next a) w (λ more. refl)) after.knows after.card (x.legal a) (x.closes a) (x.most a) in
         let there = standing start now (Some on) in
         let moves = sent hs (Gives a q) g few follows in
         record {
@@ -244,16 +245,16 @@ module _ (number_of : Activated → ℕ) (Q : Type 0) (fsdi : ℕ) (start : Talk
           after = r.after;
           count = moves.0 + r.count;
           leads = leads_by moves.0 r.count results r.heard (Response a) (standing start results (Some l)) there f g r.after r.ending moves.2 r.leads;
-          within = λ n fits. both_within moves.0 r.count command_most n moves.1 fits.0 (r.within (n - command_most) (fits.1 a after.short));
+          within = λ n fits. both_within moves.0 r.count command_most n moves.1 fits.0 (r.within (n - command_most) (fits.1 a));
           hears = (Gives a q, g, record { hearings = hs; follows = follows }, (r.heard, refl, r.hears));
           keeps = λ later.
               let y = r.keeps later in
               let es = ends_of r.heard ++ later in
               let log : List (ℕ × List ℕ) = (card_image.number, c) ∷ y.0 in
-              let kept : Kept (Fails Q) (Command c next) (Response a ∷ r.heard) log (executes card_image.number c (gave (Response a) (perfect (one number_of) (next a) es d))) r.ending =
+              let kept : Kept (Fails Q) (Command c next) (Response a ∷ r.heard) log (with_command card_image.number c (gave (Response a) (perfect (one number_of) (next a) es d))) r.ending =
               answer_kept (Fails Q) card_image.number c a next r.heard y.0 (perfect (one number_of) (next a) es d) r.ending y.2 in
               let kept_so : Kept (Fails Q) (Command c next) (Response a ∷ r.heard) log (run_of c next es ch card_image.number card_image) r.ending =
-              subst (λ z. Kept (Fails Q) (Command c next) (Response a ∷ r.heard) log (executes card_image.number c (gave (Response z) (perfect (one number_of) (next z) es d))) r.ending) after.said kept in (
+              subst (λ z. Kept (Fails Q) (Command c next) (Response a ∷ r.heard) log (with_command card_image.number c (gave (Response z) (perfect (one number_of) (next z) es d))) r.ending) after.said kept in (
                 log,
                 y.1 ∙ (ap (λ (z : List (ℕ × List ℕ)). z ++ y.0) after.log ∙ append_assoc f.log ((card_image.number, c) ∷ []) y.0),
                 subst (λ p. Kept (Fails Q) (Command c next) (Response a ∷ r.heard) log p r.ending) (sym (run_is c next es ch card_image b.presented b.image)) kept_so,
@@ -308,7 +309,7 @@ module _ (number_of : Activated → ℕ) (Q : Type 0) (fsdi : ℕ) (start : Talk
           ];
         }
 
-    by_turn : ((r : List ℕ) → Ends (next r)) → (turn : Turn) (hs : List Heard) (g : Field) → length hs ≤ command_most → Follows (told field) l.set hs begun f turn g → IsEnded turn
+    by_turn : ((r : List ℕ) → Ends (next r)) → (turn : ReaderTurn) (hs : List Heard) (g : Field) → length hs ≤ command_most → Follows (told field) l.set hs begun f turn g → IsEnded turn
         → Course (Command c next) results (Some l) f ch
     by_turn again (Asks q) hs g few follows e = absurd e
     by_turn again (Gives a q) hs g few follows e = answered a q hs g few again follows

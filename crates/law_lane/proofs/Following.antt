@@ -1,14 +1,14 @@
 -- The events so far stay, and the exchanges are those that were made.
 use Rattle.std.proofs.Common.{◌≡◌, ℕ, zero, suc, List, [], ◌∷◌, ◌++◌, refl, sym, ap, ◌∙◌, append_assoc, append-nil, Option, Some, None}
-use Rattle.ep_base.specs.Air.Heard.{Ask, Heard, RoundEnd}
+use Rattle.ep_base.specs.Air.Heard.{Ask, Heard}
 use Rattle.ep_base.specs.Air.Heard as rounds
 use Rattle.ep_base.specs.Poll.Round.{Stage, round_hears}
-use Rattle.ep_base.specs.Link.ReaderEnd.{Turn, Asks, Gives, Spends, Breaks}
+use Rattle.ep_base.specs.Link.ReaderEnd.{ReaderTurn, Asks, Gives, Spends, Breaks}
 use Rattle.ep_base.specs.Link.LinkFrames.{LinkSetting}
 use Rattle.ep_base.specs.Link.Carry.{turn_on}
 use Rattle.ep_base.specs.Cards.Field.{Field}
 use Rattle.ep_base.specs.Poll.Radio.{OpenLink}
-use Rattle.ep_rules.specs.EntryPoint.Event.{Said, Tells, Apdu, EndLink, EndBreach}
+use Rattle.ep_rules.specs.EntryPoint.Event.{Event as EventData, Tells, Apdu, EndLink, EndBreach}
 use Rattle.ep_rules.specs.EntryPoint.Talk.{Talk, Over, Say, Poll, Command, Close, Result, Round, Response, Closed, so_far}
 use Rattle.ep_rules.specs.EntryPoint.TransportRun.{HearEnd}
 use Rattle.ep_claim.specs.Lanes.Standing.{Standing, Doing, Rounds, Carries, Closing, Stopped, Astray, doing_by, standing, started, asked_by, link_by, after_stage, after_turn, hears_by, after_hearing, ending_of, events_by, events_of}
@@ -17,16 +17,16 @@ use Rattle.law_lane.specs.Following.{EventsGrow, AreMade, ExchangesAreMade}
 
 -- ---- events
 
-abbrev Extends : List Said → List Said → Type 0
-Extends before after = (more : List Said) × (after ≡ before ++ more)
+abbrev Extends : List EventData → List EventData → Type 0
+Extends before after = (more : List EventData) × (after ≡ before ++ more)
 
-extends_same : (before : List Said) → Extends before before
+extends_same : (before : List EventData) → Extends before before
 extends_same before = ([], sym (append-nil before))
 
-extends_cons : (x : Said) (before after : List Said) → Extends before after → Extends (x ∷ before) (x ∷ after)
+extends_cons : (x : EventData) (before after : List EventData) → Extends before after → Extends (x ∷ before) (x ∷ after)
 extends_cons x before after e = (e.0, ap (λ l. x ∷ l) e.1)
 
-extends_on : (before middle after : List Said) → Extends before middle → Extends middle after → Extends before after
+extends_on : (before middle after : List EventData) → Extends before middle → Extends middle after → Extends before after
 extends_on before middle after a b = (a.0 ++ b.0, b.1 ∙ (ap (λ l. l ++ b.0) a.1 ∙ append_assoc before a.0 b.0))
 
 -- with one more result
@@ -52,7 +52,7 @@ ending_extends talk results None = extends_same (so_far talk results).events
 ending_extends talk results (Some ending) = (_, refl)
 
 module _ (fsdi : ℕ) (talk : Talk) (results : List Result) where
-  abbrev now : List Said
+  abbrev now : List EventData
   now = (so_far talk results).events
 
   abbrev Grows : Standing → Type 0
@@ -64,11 +64,11 @@ module _ (fsdi : ℕ) (talk : Talk) (results : List Result) where
       extends_on now (so_far talk next).events (events_of talk (standing talk next link)) (result_extends talk results x)
       (ending_extends talk next (ending_of (doing_by (so_far talk next).wish link)))
 
-  stage_grows : (turn : rounds.Turn Stage) → Grows (after_stage fsdi talk results turn)
+  stage_grows : (turn : rounds.RoundTurn Stage) → Grows (after_stage fsdi talk results turn)
   stage_grows (rounds.Goes stage) = extends_same now
   stage_grows (rounds.Ends e) = stands_grow (Round e) (link_by fsdi e)
 
-  turn_grows : (set : LinkSetting) (turn : Turn) → Grows (after_turn talk results set turn)
+  turn_grows : (set : LinkSetting) (turn : ReaderTurn) → Grows (after_turn talk results set turn)
   turn_grows set (Asks r) = extends_same now
   turn_grows set (Gives response r) = stands_grow (Response response) (Some (record { set = set; reader = r }))
   turn_grows set (Spends r) = (EndLink ∷ [], refl)

@@ -1,5 +1,5 @@
 -- What is known of a field and its open link beside the perfect channel, after a poll round, a command and a closing.
-use Rattle.std.proofs.Common.{◌≡◌, ℕ, ◌+◌, ◌-◌, ◌<◌, ◌≤◌, Bool, true, false, List, [], ◌∷◌, ◌++◌, length, refl, sym, ap, subst, ◌∙◌, arith, length-append, Option, Some, None}
+use Rattle.std.proofs.Common.{◌≡◌, ℕ, ◌+◌, ◌-◌, ◌<◌, Bool, true, false, List, [], ◌∷◌, ◌++◌, length, refl, sym, ap, subst, ◌∙◌, arith, length-append, Option, Some, None}
 use Rattle.std.proofs.lemmas.Bool.{and_parts}
 use Rattle.ep_base.specs.declared.air.CardKind.{CardKind}
 use Rattle.ep_base.specs.Air.Heard.{Activated, Heard, RoundEnd, Empty, Collision, Unsupported, Broken, Found, wave_of_kind}
@@ -11,18 +11,17 @@ use Rattle.ep_rules.specs.EntryPoint.Talk.{is_found}
 use Rattle.ep_base.specs.Cards.CardAnswer.{Image, card_answer}
 use Rattle.ep_base.specs.Air.Medium.{told}
 use Rattle.ep_base.specs.Poll.Polling.{Polled, Came, NoCard, PlaysRound, PlaysRounds}
-use Rattle.ep_base.specs.Link.ReaderEnd.{Reader, Turn, Gives, Spends, begin}
+use Rattle.ep_base.specs.Link.ReaderEnd.{Reader, ReaderTurn, Gives, Spends, begin}
 use Rattle.ep_base.specs.Link.Carry.{SendsBlock, Follows, AtRest, OfLink, OnceSo}
 use Rattle.ep_base.specs.Cards.Field.{Field, field, field_send}
 use Rattle.ep_base.specs.Poll.Radio.{OpenLink, link_to}
 use Rattle.ep_base.specs.Cards.Images.{Rules, stored}
 use Rattle.ep_base.specs.Cards.Direct.{image_rules}
 use Rattle.ep_rules.specs.EntryPoint.Perfect.{Channel, presents}
-use Rattle.law_wire.proofs.Limits.{images_keep}
 use Rattle.law_radio.proofs.Stored.{stored_at}
 use Rattle.ep_base.specs.Cards.Lawful.{Lawful, faces}
 use Rattle.law_round.specs.Polled.{SameCards}
-use Rattle.law_round.specs.Acting.{are_passages, is_open, linked_at, party_at, shown}
+use Rattle.law_round.specs.Acting.{are_fates, is_open, linked_at, party_at, shown}
 use Rattle.law_round.proofs.Lawfulness.{stays_lawful_law}
 use Rattle.law_round.proofs.Polling.{polls_quietly_law}
 use Rattle.law_round.proofs.Acting.{others_stay_law}
@@ -37,7 +36,7 @@ use Rattle.ep_claim.specs.Lanes.Standing.{link_by}
 
 -- a field with an open link has the linked card
 open_linked : (kind : CardKind) (n : ℕ) (f : Field) → is_open kind n f ≡ true → linked_at kind f.air.gone n f.cards ≡ true
-open_linked kind n f e = (and_parts (linked_at kind f.air.gone n f.cards) (are_passages f.air.fates) e).0
+open_linked kind n f e = (and_parts (linked_at kind f.air.gone n f.cards) (are_fates f.air.fates) e).0
 
 -- a round is polling of one round
 abbrev polled_by : RoundEnd → Polled
@@ -188,7 +187,7 @@ module _ (number_of : Activated → ℕ) (Q : Type 0) where
     abbrev pub response_now : List ℕ
     response_now = (card_answer image_now c).0.response
 
-    pub once : (turn : Turn) (hs : List Heard) → Follows (told field) l.set hs (begin l.set.frames.card c l.reader) f turn g
+    pub once : (turn : ReaderTurn) (hs : List Heard) → Follows (told field) l.set hs (begin l.set.frames.card c l.reader) f turn g
         → OnceSo (shown b.place f) c turn (shown b.place g) × (is_open l.set.kind b.place g ≡ true)
     once turn hs follows = once_in_field_law l.set b.place f l.reader c hs turn g b.is (b.ready some).0 (b.ready some).1 form follows
 
@@ -199,7 +198,6 @@ module _ (number_of : Activated → ℕ) (Q : Type 0) where
     -- what a command that was answered leaves
     pub record AfterAnswer (a : List ℕ) (r : Reader) : Type 0 where
       pub said : a ≡ response_now
-      pub short : length a ≤ 258
       pub log : g.log ≡ f.log ++ (image_now.number, c) ∷ []
       pub knows : Knows (m - 1) g (answered_channel ch image_now.number image_now c).images
       pub card : HasCard (m - 1) g (answered_channel ch image_now.number image_now c) (record { set = l.set; reader = r })
@@ -224,10 +222,8 @@ module _ (number_of : Activated → ℕ) (Q : Type 0) where
         let size : length g.log ≡ length f.log + 1 = ap (λ (xs : List (ℕ × List ℕ)). length xs) log ∙ length-append f.log ((i.number, c) ∷ []) in
         let free : length f.log + m < f.room = k.room in
         let room : length g.log + (m - 1) < g.room = omega (arith, size, same_room, free, some) in
-        let fits : length response_now ≤ 258 = ((images_keep number_of).responses 0 i c ready.0.image).1 in
         record {
           said = said;
-          short = subst (λ (y : List ℕ). length y ≤ 258) (sym said) fits;
           log = log;
           knows = record {
             lawful = left.0;

@@ -1,7 +1,7 @@
 -- Where exchanges lead a lane: through a poll round, an open command, and the closing of a link.
 use Rattle.std.proofs.Common.{◌≡◌, ℕ, zero, suc, ◌+◌, ◌≤◌, Bool, true, false, List, [], ◌∷◌, ◌++◌, length, refl, sym, ap, subst, ◌∙◌, arith, Option, Some, None}
 use Rattle.std.specs.Prelude.{if◌then◌else◌}
-use Rattle.ep_base.specs.Air.Heard.{Ask, Heard, RoundEnd, Turn, Goes, Ends}
+use Rattle.ep_base.specs.Air.Heard.{Ask, Heard, RoundEnd, RoundTurn, Goes, Ends}
 use Rattle.ep_base.specs.Poll.Round.{Stage, round_asks, round_hears}
 use Rattle.ep_base.specs.Link.Block.{Deselect}
 use Rattle.ep_base.specs.Link.ReaderEnd as reader
@@ -83,7 +83,7 @@ module _ (fsdi : ℕ) (talk : Talk) where
     abbrev round_over : RoundEnd → Standing
     round_over e = standing talk (results ++ Round e ∷ []) (link_by fsdi e)
 
-    abbrev LeadsFrom : ℕ → Turn Stage → Field → RoundEnd → Field → Type 0
+    abbrev LeadsFrom : ℕ → RoundTurn Stage → Field → RoundEnd → Field → Type 0
     LeadsFrom n turn f e g = LeadsIn n (after_stage fsdi talk results turn) f (round_over e) g
 
     ended : (n : ℕ) (f g : Field) (e d : RoundEnd) → Some e ≡ Some d → g ≡ f → LeadsFrom n (Ends d) f e g
@@ -100,7 +100,7 @@ module _ (fsdi : ℕ) (talk : Talk) where
         let ask = round_asks fsdi stage in
         then_in n s (after_hearing fsdi talk h s) (round_over e) f u g (leads_once s f u ask h refl (by_reset ask.reset ask f u h x)) (more h after)
 
-    pub plays_lead : (n : ℕ) (turn : Turn Stage) (f g : Field) (e : RoundEnd) → Plays (told field) fsdi n turn f (Some e) g → LeadsFrom n turn f e g
+    pub plays_lead : (n : ℕ) (turn : RoundTurn Stage) (f g : Field) (e : RoundEnd) → Plays (told field) fsdi n turn f (Some e) g → LeadsFrom n turn f e g
     unfolding Plays
     plays_lead zero (Goes stage) f g e x = absurd x
     plays_lead zero (Ends d) f g e x = ended zero f g e d x.0 x.1
@@ -110,21 +110,21 @@ module _ (fsdi : ℕ) (talk : Talk) where
 
     -- ---- a command
 
-    abbrev LeadsBy : ℕ → LinkSetting → reader.Turn → Field → reader.Turn → Field → Type 0
+    abbrev LeadsBy : ℕ → LinkSetting → reader.ReaderTurn → Field → reader.ReaderTurn → Field → Type 0
     LeadsBy n set turn f last g = LeadsIn n (after_turn talk results set turn) f (after_turn talk results set last) g
 
-    last_turn : (n : ℕ) (set : LinkSetting) (turn last : reader.Turn) (f g : Field) → last ≡ turn → g ≡ f → LeadsBy n set turn f last g
+    last_turn : (n : ℕ) (set : LinkSetting) (turn last : reader.ReaderTurn) (f g : Field) → last ≡ turn → g ≡ f → LeadsBy n set turn f last g
     last_turn n set turn last f g is same =
         subst (λ v. LeadsBy n set turn f last v) (sym same) (subst (λ z. LeadsBy n set turn f z f) (sym is) (stays_in n (after_turn talk results set turn) f))
 
-    turned : (n : ℕ) (set : LinkSetting) (hs : List Heard) (turn last : reader.Turn) (f g : Field) → ((q : Reader) → Follows (told field) set hs q f last g → LeadsBy n set (Asks q) f last g)
+    turned : (n : ℕ) (set : LinkSetting) (hs : List Heard) (turn last : reader.ReaderTurn) (f g : Field) → ((q : Reader) → Follows (told field) set hs q f last g → LeadsBy n set (Asks q) f last g)
         → GoesOn (λ q v. Follows (told field) set hs q v last g) turn hs f last g → LeadsBy n set turn f last g
     turned n set hs (Asks q) last f g more x = more q x
     turned n set hs (Gives response q) last f g more x = last_turn n set (Gives response q) last f g x.1 x.2
     turned n set hs (Spends q) last f g more x = last_turn n set (Spends q) last f g x.1 x.2
     turned n set hs (Breaks q) last f g more x = last_turn n set (Breaks q) last f g x.1 x.2
 
-    pub follows_lead : (set : LinkSetting) (hs : List Heard) (r : Reader) (f g : Field) (last : reader.Turn) → Follows (told field) set hs r f last g → LeadsBy (length hs) set (Asks r) f last g
+    pub follows_lead : (set : LinkSetting) (hs : List Heard) (r : Reader) (f g : Field) (last : reader.ReaderTurn) → Follows (told field) set hs r f last g → LeadsBy (length hs) set (Asks r) f last g
     follows_lead set [] r f g last x = last_turn 0 set (Asks r) last f g x.0 x.1
     follows_lead set (h ∷ hs) r f g last (u, is, x) =
         let s = after_turn talk results set (Asks r) in

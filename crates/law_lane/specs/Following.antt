@@ -2,7 +2,7 @@
 use Rattle.std.specs.Prelude.{◌≡◌, ℕ, List, [], ◌∷◌, ◌++◌, Some}
 use Rattle.ep_base.specs.Air.Heard.{Heard}
 use Rattle.ep_base.specs.Cards.Field.{Field}
-use Rattle.ep_rules.specs.EntryPoint.Event.{Said}
+use Rattle.ep_rules.specs.EntryPoint.Event.{Event as EventData}
 use Rattle.ep_rules.specs.EntryPoint.Talk.{Talk}
 use Rattle.ep_claim.specs.Lanes.Standing.{Standing, started, asked_by, after_hearing, events_of}
 use Rattle.ep_claim.specs.Lanes.Exchanges.{Exchange, field_answers, opened_lane, lane_after}
@@ -10,7 +10,7 @@ use Rattle.ep_claim.specs.Lanes.Exchanges.{Exchange, field_answers, opened_lane,
 -- Whatever is heard next, the events so far stay, and others may follow them (this project's own).
 abbrev pub EventsGrow : Type 0
 EventsGrow = (fsdi : ℕ) (talk : Talk) (heard : Heard) (s : Standing) →
-    (more : List Said) × (events_of talk (after_hearing fsdi talk heard s) ≡ events_of talk s ++ more)
+    (more : List EventData) × (events_of talk (after_hearing fsdi talk heard s) ≡ events_of talk s ++ more)
 
 -- From this standing and this field on these exchanges were made: each asks what is asked then, hears what the field answers, and goes on from
 -- there; they lead to that standing and that field (this project's own).

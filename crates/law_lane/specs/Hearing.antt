@@ -4,7 +4,7 @@ use Rattle.ep_base.specs.Air.Heard.{Heard, RoundEnd}
 use Rattle.ep_base.specs.Air.Medium.{MediumSteps}
 use Rattle.ep_base.specs.Poll.Polling.{PlaysRound}
 use Rattle.ep_base.specs.Link.Block.{Deselect}
-use Rattle.ep_base.specs.Link.ReaderEnd.{Turn, Asks, Gives, Spends, Breaks}
+use Rattle.ep_base.specs.Link.ReaderEnd.{ReaderTurn, Asks, Gives, Spends, Breaks}
 use Rattle.ep_base.specs.Link.LinkFrames.{LinkSetting}
 use Rattle.ep_base.specs.Link.Carry.{SendsBlock}
 use Rattle.ep_base.specs.Poll.Radio.{OpenLink, Comes}
@@ -14,7 +14,7 @@ use Rattle.ep_claim.specs.Lanes.Standing.{link_by}
 
 module _ {S : Type 0} (steps : MediumSteps S) (fsdi : ℕ) where
   -- After a command: with its response the link is open for the next one, and a link that is spent or broken ends the hearing (ISO/IEC 14443-4).
-  abbrev pub HearsTurn : (List ℕ → OpenLink → S → List Result → HearEnd → S → Type 0) → LinkSetting → Turn → S → List Result → HearEnd → S → Type 0
+  abbrev pub HearsTurn : (List ℕ → OpenLink → S → List Result → HearEnd → S → Type 0) → LinkSetting → ReaderTurn → S → List Result → HearEnd → S → Type 0
   HearsTurn Then set (Asks r) s heard ending t = ⊥
   HearsTurn Then set (Gives response r) s heard ending t =
       (rest : List Result) × (heard ≡ Response response ∷ rest) × Then response (record { set = set; reader = r }) s rest ending t
@@ -30,7 +30,7 @@ module _ {S : Type 0} (steps : MediumSteps S) (fsdi : ℕ) where
       (e : RoundEnd) × (u : S) × PlaysRound steps fsdi s (Some e) u
       × (rest : List Result) × (heard ≡ Round e ∷ rest) × HearsRounds (next e) (link_by fsdi e) u rest ending t
   HearsRounds (Command c next) (Some l) s heard ending t =
-      (turn : Turn) × (u : S) × Comes steps l c s turn u × HearsTurn (λ response n v. HearsRounds (next response) (Some n) v) l.set turn u heard ending t
+      (turn : ReaderTurn) × (u : S) × Comes steps l c s turn u × HearsTurn (λ response n v. HearsRounds (next response) (Some n) v) l.set turn u heard ending t
   HearsRounds (Command c next) None s heard ending t = ⊥
   HearsRounds (Close next) (Some l) s heard ending t =
       (answer : Heard) × (u : S) × SendsBlock steps l.set s Deselect (Some answer) u

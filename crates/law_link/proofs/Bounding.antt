@@ -2,11 +2,12 @@
 use Rattle.std.proofs.Common.{◌≡◌, ℕ, zero, suc, ◌+◌, ◌-◌, ◌*◌, ◌<◌, ◌≤◌, Bool, true, false, List, [], ◌∷◌, ◌++◌, length, drop, refl, ⊎_elim, arith, length-append, length-drop}
 use Rattle.std.specs.Prelude.{if◌then◌else◌}
 use Rattle.std.proofs.lemmas.Bool.Decides.{leb_tells, nat_tests}
+use Rattle.ep_base.specs.declared.limits.TheConstants.{COMMAND, COMMAND_EXCHANGES, EXCHANGES, RESPONSE, WAITS}
 use Rattle.ep_base.specs.Link.Block.{I, RAck, RNak, Deselect, Wtx, ReadBlock, Bad, Junk, Intact, other, same, is_bad, is_wtx, is_nak, count}
 use Rattle.ep_base.specs.Link.Parts.{cut_by, cut}
-use Rattle.ep_base.specs.Link.ReaderEnd.{Phase, Idle, Sending, Receiving, Reader, question, asked, Turn, Asks, Gives, Spends, Breaks, is_fit, takes, appended, on_i, on_ack, on_bad, on_wtx, kept, reader_hears, begin}
-use Rattle.ep_base.specs.Link.CardEnd.{Image, Card, Answer}
-use Rattle.ep_base.specs.Link.OneLink.{Frames, Fate, goes_down, comes_up, goes_on, hears_answer, run}
+use Rattle.ep_base.specs.Link.ReaderEnd.{Phase, Idle, Sending, Receiving, Reader, question, asked, ReaderTurn, Asks, Gives, Spends, Breaks, is_fit, takes, appended, on_i, on_ack, on_bad, on_wtx, kept, reader_hears, begin}
+use Rattle.ep_base.specs.Link.CardEnd.{CommandRules, Card, Answer}
+use Rattle.ep_base.specs.Link.OneLink.{Frames, BlockFate, goes_down, comes_up, continues, hears_answer, run_command}
 use Rattle.law_link.specs.Bounds.{after_all, IsBounded, IsEnded, IsOver, toggle_of, toggle, toggles_in, BoundedToggles, CommandEnds, LinkEnds, FewToggles}
 
 -- an R(ACK) without a toggle
@@ -50,37 +51,37 @@ nak_top n (Receiving got) (Intact (Wtx p m) ∷ s) e = cc
 -- what holds of the hearings since the toggle
 record IsKept (s : List ReadBlock) : Type 0 where
   bad : count is_bad s ≤ 2
-  waits : count is_wtx s ≤ 16
+  waits : count is_wtx s ≤ WAITS
   acks : count is_ack s + top s ≤ count is_bad s
   all : length s ≡ count is_bad s + count is_wtx s + count is_ack s
 
 kept_none : IsKept []
 kept_none = record { bad = omega arith; waits = omega arith; acks = omega arith; all = refl }
 
-few : (s : List ReadBlock) → IsKept s → length s ≤ 20
+few : (s : List ReadBlock) → IsKept s → length s ≤ EXCHANGES - 1
 few s k = omega (arith, k.bad, k.waits, k.acks, k.all)
 
 -- the toggles that a command may still take
 abbrev toggles : Phase → ℕ
 toggles Idle = 0
-toggles (Sending part left) = length left + 259
-toggles (Receiving got) = 259 - length got
+toggles (Sending part left) = length left + (RESPONSE + 1)
+toggles (Receiving got) = RESPONSE + 1 - length got
 
 -- the exchanges that it may still take
 abbrev work : Reader → ℕ
-work r = 21 * toggles r.phase - length r.since
+work r = EXCHANGES * toggles r.phase - length r.since
 
 -- at least one more toggle
 abbrev IsOpen : Phase → Type 0
 IsOpen Idle = ⊥
 IsOpen (Sending part left) = Unit {0}
-IsOpen (Receiving got) = length got ≤ 258
+IsOpen (Receiving got) = length got ≤ RESPONSE
 
 -- a step keeps the bound, and takes from the work and the toggles
-abbrev Falls : Reader → Turn → Type 0
+abbrev Falls : Reader → ReaderTurn → Type 0
 Falls old (Asks r) = IsKept r.since × IsOpen r.phase × (work r < work old) × (toggle old (Asks r) + toggles r.phase ≤ toggles old.phase)
 Falls old (Gives response r) = (r.since ≡ []) × (toggle old (Gives response r) ≤ toggles old.phase)
-Falls old (Spends r) = (length r.since ≤ 21) × (count is_bad r.since ≡ 3)
+Falls old (Spends r) = (length r.since ≤ EXCHANGES) × (count is_bad r.since ≡ 3)
 Falls old (Breaks r) = IsKept r.since
 
 some_toggle : (phase : Phase) → IsOpen phase → 1 ≤ toggles phase
@@ -88,7 +89,7 @@ some_toggle Idle o = absurd o
 some_toggle (Sending part left) o = omega arith
 some_toggle (Receiving got) o = omega arith
 
-fit_chained_only : (frame : ℕ) (got inf : List ℕ) → is_fit frame got true inf ≡ true → (0 < length inf) × (length (got ++ inf) ≤ 258)
+fit_chained_only : (frame : ℕ) (got inf : List ℕ) → is_fit frame got true inf ≡ true → (0 < length inf) × (length (got ++ inf) ≤ RESPONSE)
 fit_chained_only frame got inf e = (grind (arith, nat_tests), grind (arith, nat_tests))
 
 stays : (n : Bool) → toggle_of n n ≡ 0
@@ -115,9 +116,9 @@ module _ (frame : ℕ) (n : Bool) (s : List ReadBlock) (k : IsKept s) where
       ⊎_elim
       (λ h. rw h.0 (record { bad = k.bad; waits = h.1; acks = omega (arith, k.acks); all = omega (arith, k.all) }, o, omega (arith, few s k, some_toggle phase o), omega (arith, stays n)))
       (λ h. rw h.0 k)
-      (leb_tells (suc (count is_wtx s)) 16)
+      (leb_tells (suc (count is_wtx s)) WAITS)
 
-  falls_part : (got inf : List ℕ) (ch : Bool) (phase : Phase) → length got ≤ 258 → 259 - length got ≤ toggles phase → Falls (at phase) (takes frame got ch inf (at phase))
+  falls_part : (got inf : List ℕ) (ch : Bool) (phase : Phase) → length got ≤ RESPONSE → RESPONSE + 1 - length got ≤ toggles phase → Falls (at phase) (takes frame got ch inf (at phase))
   falls_part got inf true phase o most =
       elim (is_fit frame got true inf) as (λ (b : Bool). is_fit frame got true inf ≡ b → Falls (at phase) (if b then appended got true inf (at phase) else Breaks (at phase))) [
         | true ↦ λ e. let f = fit_chained_only frame got inf e in (kept_none, f.1, omega (arith, f.0, f.1, few s k, length-append got inf), omega (arith, f.0, f.1, length-append got inf, moves n))
@@ -169,7 +170,7 @@ parts_few (suc k) size bytes fuel wide =
     (leb_tells (length bytes) size)
 
 -- the reader alone
-bounded_from : (frame : ℕ) (hs : List ReadBlock) (old : Reader) → ((r : Reader) → IsKept r.since → IsOpen r.phase → IsBounded (after_all frame hs (Asks r))) → (t : Turn) → Falls old t → IsBounded (after_all frame hs t)
+bounded_from : (frame : ℕ) (hs : List ReadBlock) (old : Reader) → ((r : Reader) → IsKept r.since → IsOpen r.phase → IsBounded (after_all frame hs (Asks r))) → (t : ReaderTurn) → Falls old t → IsBounded (after_all frame hs t)
 bounded_from frame hs old next (Asks r) f = next r f.0 f.1
 bounded_from frame [] old next (Gives response r) f = f.0
 bounded_from frame (h ∷ hs) old next (Gives response r) f = f.0
@@ -182,7 +183,7 @@ bounded : (frame : ℕ) (hs : List ReadBlock) (r : Reader) → IsKept r.since �
 bounded frame [] r k o = (few r.since k, k.bad)
 bounded frame (h ∷ hs) r k o = bounded_from frame hs r (bounded frame hs) (reader_hears frame r h) (reader_falls frame r k o h)
 
-ended_from : (frame : ℕ) (hs : List ReadBlock) (old : Reader) → ((r : Reader) → IsKept r.since → IsOpen r.phase → work r ≤ length hs → IsEnded (after_all frame hs (Asks r))) → work old ≤ suc (length hs) → (t : Turn) → Falls old t → IsEnded (after_all frame hs t)
+ended_from : (frame : ℕ) (hs : List ReadBlock) (old : Reader) → ((r : Reader) → IsKept r.since → IsOpen r.phase → work r ≤ length hs → IsEnded (after_all frame hs (Asks r))) → work old ≤ suc (length hs) → (t : ReaderTurn) → Falls old t → IsEnded (after_all frame hs t)
 ended_from frame hs old next le (Asks r) f = next r f.0 f.1 (omega (arith, f.2, le))
 ended_from frame [] old next le (Gives response r) f = tt
 ended_from frame (h ∷ hs) old next le (Gives response r) f = tt
@@ -200,20 +201,20 @@ ended frame [] r k o le = absurd (omega (arith, some_work r k o, le))
 ended frame (h ∷ hs) r k o le = ended_from frame hs r (ended frame hs) le (reader_hears frame r h) (reader_falls frame r k o h)
 
 -- the link
-over_from : (frames : Frames) (image : Image) (fates : List Fate) (card : Card) (old : Reader) → ((r : Reader) → IsKept r.since → IsOpen r.phase → work r ≤ length fates → IsOver (run frames image fates r card)) → work old ≤ suc (length fates) → (t : Turn) → Falls old t → IsOver (goes_on (run frames image fates) fates t card)
+over_from : (frames : Frames) (image : CommandRules) (fates : List BlockFate) (card : Card) (old : Reader) → ((r : Reader) → IsKept r.since → IsOpen r.phase → work r ≤ length fates → IsOver (run_command frames image fates r card)) → work old ≤ suc (length fates) → (t : ReaderTurn) → Falls old t → IsOver (continues (run_command frames image fates) fates t card)
 over_from frames image fates card old next le (Asks r) f = next r f.0 f.1 (omega (arith, f.2, le))
 over_from frames image fates card old next le (Gives response r) f = tt
 over_from frames image fates card old next le (Spends r) f = tt
 over_from frames image fates card old next le (Breaks r) f = tt
 
-over : (frames : Frames) (image : Image) (fates : List Fate) (card : Card) (r : Reader) → IsKept r.since → IsOpen r.phase → work r ≤ length fates → IsOver (run frames image fates r card)
+over : (frames : Frames) (image : CommandRules) (fates : List BlockFate) (card : Card) (r : Reader) → IsKept r.since → IsOpen r.phase → work r ≤ length fates → IsOver (run_command frames image fates r card)
 over frames image [] card r k o le = absurd (omega (arith, some_work r k o, le))
 over frames image (f ∷ fates) card r k o le =
     let a : Answer = goes_down f.down frames image card (asked r) in
     over_from frames image fates a.card r (over frames image fates a.card) le (hears_answer f.up frames r a) (reader_falls frames.reader r k o (comes_up f.up a.block))
 
 -- the toggles
-toggled_from : (frame : ℕ) (hs : List ReadBlock) (old : Reader) → ((r : Reader) → IsKept r.since → IsOpen r.phase → toggles_in frame hs (Asks r) ≤ toggles r.phase) → (t : Turn) → Falls old t → toggle old t + toggles_in frame hs t ≤ toggles old.phase
+toggled_from : (frame : ℕ) (hs : List ReadBlock) (old : Reader) → ((r : Reader) → IsKept r.since → IsOpen r.phase → toggles_in frame hs (Asks r) ≤ toggles r.phase) → (t : ReaderTurn) → Falls old t → toggle old t + toggles_in frame hs t ≤ toggles old.phase
 toggled_from frame hs old next (Asks r) f = omega (arith, next r f.0 f.1, f.3)
 toggled_from frame [] old next (Gives response r) f = omega (arith, f.1)
 toggled_from frame (h ∷ hs) old next (Gives response r) f = omega (arith, f.1)
@@ -226,7 +227,7 @@ toggled : (frame : ℕ) (hs : List ReadBlock) (r : Reader) → IsKept r.since �
 toggled frame [] r k o = omega arith
 toggled frame (h ∷ hs) r k o = toggled_from frame hs r (toggled frame hs) (reader_hears frame r h) (reader_falls frame r k o h)
 
-begun_work : (card_frame : ℕ) (command : List ℕ) (r : Reader) → 16 ≤ card_frame → length command ≤ 261 → work (begin card_frame command r) ≤ 279 * 21
+begun_work : (card_frame : ℕ) (command : List ℕ) (r : Reader) → 16 ≤ card_frame → length command ≤ COMMAND → work (begin card_frame command r) ≤ COMMAND_EXCHANGES
 begun_work card_frame command r wide short =
     let p : 13 * length (cut (card_frame - 3) command).others ≤ length command = parts_few (length command) (card_frame - 3) command (omega arith) (omega arith) in
     omega (arith, p, short)

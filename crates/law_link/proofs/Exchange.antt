@@ -4,14 +4,15 @@ use Rattle.std.specs.Prelude.{nat_le, cond, if◌then◌else◌}
 use Rattle.std.specs.List.{concat}
 use Rattle.std.proofs.lemmas.List.{append-nil}
 use Rattle.std.proofs.lemmas.Bool.Decides.{leb_tells, nat_tests}
+use Rattle.ep_base.specs.declared.limits.TheConstants.{COMMAND, RESPONSE, WAITS}
 use Rattle.ep_base.specs.Link.Block.{Block, I, RAck, RNak, Deselect, Wtx, ReadBlock, Bad, Intact, other, same, is_bad, is_wtx, is_nak, count}
 use Rattle.ep_base.specs.Link.Parts.{Cut, cut, more}
-use Rattle.ep_base.specs.Link.ReaderEnd.{Phase, Idle, Sending, Receiving, Reader, question, asked, Turn, Asks, Gives, Spends, Breaks, is_fit, takes, appended, on_i, kept, reader_hears}
+use Rattle.ep_base.specs.Link.ReaderEnd.{Phase, Idle, Sending, Receiving, Reader, question, asked, ReaderTurn, Asks, Gives, Spends, Breaks, is_fit, takes, appended, on_i, kept, reader_hears}
 use Rattle.ep_base.specs.Link.ReaderEnd as Rules
 use Rattle.ep_base.specs.Link.ReaderEnd.{begin}
 use Rattle.ep_base.specs.Cards.CardAnswer.{Answered}
-use Rattle.ep_base.specs.Link.CardEnd.{Image, Parts, Waits, Card, Answer, sends_first, executes, card_hears}
-use Rattle.ep_base.specs.Link.OneLink.{Frames, Fate, goes_down, goes_on, hears_answer, run}
+use Rattle.ep_base.specs.Link.CardEnd.{CommandRules, Parts, Waits, Card, Answer, sends_first, executes, card_hears}
+use Rattle.ep_base.specs.Link.OneLink.{Frames, BlockFate, goes_down, continues, hears_answer, run_command}
 use Rattle.law_link.specs.Once.{IsImage, AreFrames, IsIdle, ExactlyOnce, OneCommand, is_loss, losses, IsSafe}
 use Rattle.law_link.proofs.Cutting.{AllFit, cut_joins, cut_fits}
 
@@ -42,13 +43,13 @@ other_false : (b : Bool) → same (other b) b ≡ false
 other_false true = refl
 other_false false = refl
 
-fit_last : (frame : ℕ) (got inf : List ℕ) → length inf + 3 ≤ frame → 2 ≤ length (got ++ inf) → length (got ++ inf) ≤ 258 → is_fit frame got false inf ≡ true
+fit_last : (frame : ℕ) (got inf : List ℕ) → length inf + 3 ≤ frame → 2 ≤ length (got ++ inf) → length (got ++ inf) ≤ RESPONSE → is_fit frame got false inf ≡ true
 fit_last frame got inf a b c = grind (arith, nat_tests)
 
-fit_chained : (frame : ℕ) (got inf : List ℕ) → length inf + 3 ≤ frame → 0 < length inf → length (got ++ inf) ≤ 258 → is_fit frame got true inf ≡ true
+fit_chained : (frame : ℕ) (got inf : List ℕ) → length inf + 3 ≤ frame → 0 < length inf → length (got ++ inf) ≤ RESPONSE → is_fit frame got true inf ≡ true
 fit_chained frame got inf a b c = grind (arith, nat_tests)
 
-module _ (frames : Frames) (image : Image) (before : List (List ℕ)) (command : List ℕ) where
+module _ (frames : Frames) (image : CommandRules) (before : List (List ℕ)) (command : List ℕ) where
   abbrev pub after : List (List ℕ)
   after = before ++ command ∷ []
 
@@ -128,7 +129,7 @@ module _ (frames : Frames) (image : Image) (before : List (List ℕ)) (command :
   Answers m (Given got part others) s = Unit {0}
 
   -- what the reader does next, and the card then
-  abbrev pub GoodTurn : Turn → Card → Type 0
+  abbrev pub GoodTurn : ReaderTurn → Card → Type 0
   GoodTurn (Asks r) card =
       (m : Bool) × (place : Place) × (s : List ReadBlock) × Fine place × Fits m place s × (count is_bad s ≤ 2) × (r ≡ reader_at m place s) × (card ≡ card_at m place)
   GoodTurn (Gives response r) card = (response ≡ reply.response) × (card.log ≡ after) × IsIdle r card
@@ -180,10 +181,10 @@ module _ (frames : Frames) (image : Image) (before : List (List ℕ)) (command :
   receives is m phase s last got part [] joins fit =
       let whole : got ++ part ≡ reply.response = ap (λ l. got ++ l) (sym (append-nil part)) ∙ joins in
       let two : 2 ≤ length (got ++ part) = rw whole ((is.responses after).0) in
-      let most : length (got ++ part) ≤ 258 = rw whole ((is.responses after).1) in
+      let most : length (got ++ part) ≤ RESPONSE = rw whole ((is.responses after).1) in
       rw (fit_last frames.reader got part fit.0.1 two most) (whole, refl, record { differ = refl; closed = refl; fresh = refl; none_taken = refl; none_left = refl })
   receives is m phase s last got part (q ∷ qs) joins fit =
-      let most : length (got ++ part) ≤ 258 = omega (arith, (is.responses after).1, ap length joins, length-append got (part ++ (q ++ concat qs)), length-append part (q ++ concat qs), length-append got part) in
+      let most : length (got ++ part) ≤ RESPONSE = omega (arith, (is.responses after).1, ap length joins, length-append got (part ++ (q ++ concat qs)), length-append part (q ++ concat qs), length-append got part) in
       rw (fit_chained frames.reader got part fit.0.1 fit.0.0 most) (other m, Asking last (got ++ part) q qs, [], (append_assoc got part (q ++ concat qs) ∙ joins, fit.1), refl, omega arith, refl, refl)
 
   -- the card's answer
@@ -193,7 +194,7 @@ module _ (frames : Frames) (image : Image) (before : List (List ℕ)) (command :
   good_turn sized is m (Between sent part next left) s fine a le =
       rw (same_true (other m)) (other m, Before (Some (RAck (other m))) (sent ++ part) next left, [], fine, (refl, inl refl), omega arith, refl, refl)
   good_turn sized is m (Working part wtx) s fine a le =
-      let few : nat_le (suc (count is_wtx s)) 16 ≡ true = ⊎_elim (λ h. h.0) (λ h. absurd (omega (arith, h.1, is.waits after))) (leb_tells (suc (count is_wtx s)) 16) in
+      let few : nat_le (suc (count is_wtx s)) WAITS ≡ true = ⊎_elim (λ h. h.0) (λ h. absurd (omega (arith, h.1, is.waits after))) (leb_tells (suc (count is_wtx s)) WAITS) in
       rw few (m, Working part wtx, Intact (Wtx 0 reply.wtxm) ∷ s, tt, inr (refl, omega arith), le, refl, refl)
   good_turn sized is m (Replied part) s fine a le =
       rw (same_true (other m)) (receives is m _ s _ [] pieces.first pieces.others (cut_joins (frames.reader - 3) reply.response) (cut_fits frames.reader reply.response sized.reader (omega (arith, (is.responses after).0))))
@@ -221,8 +222,8 @@ module _ (frames : Frames) (image : Image) (before : List (List ℕ)) (command :
   pub taken : IsImage image → image.is_command command ≡ true → (m : Bool) (place : Place) (s : List ReadBlock) → Fine place → Fits m place s → Taken m place s
   taken is legal m (Before last sent part []) s fine fits =
       let whole : sent ++ part ≡ command = ap (λ l. sent ++ l) (sym (append-nil part)) ∙ fine in
-      let most : length (sent ++ part) ≤ 261 = rw whole (is.commands command legal) in
-      let room : nat_le (length (sent ++ part)) 261 ≡ true = ⊎_elim (λ h. h.0) (λ h. absurd (omega (arith, h.1, most))) (leb_tells (length (sent ++ part)) 261) in
+      let most : length (sent ++ part) ≤ COMMAND = rw whole (is.commands command legal) in
+      let room : nat_le (length (sent ++ part)) COMMAND ≡ true = ⊎_elim (λ h. h.0) (λ h. absurd (omega (arith, h.1, most))) (leb_tells (length (sent ++ part)) COMMAND) in
       let x = executed m last sent part s fits.0 reply.wtx refl in
       let run_it : executes frames.reader image (other m) (sent ++ part) before ≡ record { card = card_at m x.0; block = Some (answer_at m x.0) } = rw (whole, legal) x.4 in
       ⊎_elim
@@ -230,8 +231,8 @@ module _ (frames : Frames) (image : Image) (before : List (List ℕ)) (command :
       (λ e. record { next = Before (Some (RAck m)) sent part []; fine = fine; answers = (fits.0, e); phase = refl; is = asks m (Before last sent part []) s _ _ e (rw (other_false m) refl) })
       fits.1
   taken is legal m (Before last sent part (q ∷ qs)) s fine fits =
-      let most : length (sent ++ part) ≤ 261 = omega (arith, is.commands command legal, ap length fine, length-append sent (part ++ (q ++ concat qs)), length-append part (q ++ concat qs), length-append sent part) in
-      let room : nat_le (length (sent ++ part)) 261 ≡ true = ⊎_elim (λ h. h.0) (λ h. absurd (omega (arith, h.1, most))) (leb_tells (length (sent ++ part)) 261) in
+      let most : length (sent ++ part) ≤ COMMAND = omega (arith, is.commands command legal, ap length fine, length-append sent (part ++ (q ++ concat qs)), length-append part (q ++ concat qs), length-append sent part) in
+      let room : nat_le (length (sent ++ part)) COMMAND ≡ true = ⊎_elim (λ h. h.0) (λ h. absurd (omega (arith, h.1, most))) (leb_tells (length (sent ++ part)) COMMAND) in
       ⊎_elim
       (λ e. record { next = Between sent part q qs; fine = append_assoc sent part (q ++ concat qs) ∙ fine; answers = tt; phase = refl; is = asks m (Before last sent part (q ∷ qs)) s _ _ e (rw (room) refl) })
       (λ e. record { next = Before (Some (RAck m)) sent part (q ∷ qs); fine = fine; answers = (fits.0, e); phase = refl; is = asks m (Before last sent part (q ∷ qs)) s _ _ e (rw (other_false m) refl) })
@@ -274,24 +275,24 @@ module _ (frames : Frames) (image : Image) (before : List (List ℕ)) (command :
       came m place s false t (bad_turn m t.next s t.fine (holds_answers m t.next s t.answers) le)
 
   -- the exchanges that are left
-  Rest : List Fate → Type 0
-  Rest fates = (m : Bool) (place : Place) (s : List ReadBlock) → Fine place → Fits m place s → count is_bad s ≤ 2 → ExactlyOnce image before command (run frames image fates (reader_at m place s) (card_at m place))
+  Rest : List BlockFate → Type 0
+  Rest fates = (m : Bool) (place : Place) (s : List ReadBlock) → Fine place → Fits m place s → count is_bad s ≤ 2 → ExactlyOnce image before command (run_command frames image fates (reader_at m place s) (card_at m place))
 
-  then_rest : (fates : List Fate) → Rest fates → (t : Turn) (card : Card) → GoodTurn t card → ExactlyOnce image before command (goes_on (run frames image fates) fates t card)
+  then_rest : (fates : List BlockFate) → Rest fates → (t : ReaderTurn) (card : Card) → GoodTurn t card → ExactlyOnce image before command (continues (run_command frames image fates) fates t card)
   unfolding Rest
   then_rest fates rest (Asks r) card g = rw (g.6, g.7) (rest g.0 g.1 g.2 g.3 g.4 g.5)
   then_rest fates rest (Gives response r) card g = g
   then_rest fates rest (Spends r) card g = g
   then_rest fates rest (Breaks r) card g = g
 
-  all_exchanges : AreFrames frames → IsImage image → image.is_command command ≡ true → (fates : List Fate) → Rest fates
+  all_exchanges : AreFrames frames → IsImage image → image.is_command command ≡ true → (fates : List BlockFate) → Rest fates
   unfolding Rest
   all_exchanges sized is legal [] m place s fine fits le = log_at m place
   all_exchanges sized is legal (f ∷ fates) m place s fine fits le =
       then_rest fates (all_exchanges sized is legal fates) _ _ (exchange sized is legal m place s fine fits le f.down f.up)
 
   -- a loss at most, where a bad hearing is counted
-  abbrev pub Keeps : ℕ → Turn → Type 0
+  abbrev pub Keeps : ℕ → ReaderTurn → Type 0
   Keeps n (Asks r) = count is_bad r.since ≤ n
   Keeps n (Gives response r) = Unit {0}
   Keeps n (Spends r) = 3 ≤ n
@@ -327,16 +328,16 @@ module _ (frames : Frames) (image : Image) (before : List (List ℕ)) (command :
       elim (same k r.number) as (λ (b : Bool). Keeps (count is_bad r.since) (if b then Rules.on_ack r.phase r else if is_nak (asked r) then Asks (kept (Intact (RAck k)) r) else Breaks r)) [ true ↦ keeps_ack r.phase r | false ↦ again ]
   keeps_intact r (RNak k) = tt
   keeps_intact r Deselect = tt
-  keeps_intact r (Wtx p m) = elim (nat_le (suc (count is_wtx r.since)) 16) as (λ (b : Bool). Keeps (count is_bad r.since) (if b then Asks (kept (Intact (Wtx p m)) r) else Breaks r)) [ true ↦ omega arith | false ↦ tt ]
+  keeps_intact r (Wtx p m) = elim (nat_le (suc (count is_wtx r.since)) WAITS) as (λ (b : Bool). Keeps (count is_bad r.since) (if b then Asks (kept (Intact (Wtx p m)) r) else Breaks r)) [ true ↦ omega arith | false ↦ tt ]
 
   -- the bad hearings after an exchange
-  pub keeps : IsImage image → image.is_command command ≡ true → (m : Bool) (place : Place) (s : List ReadBlock) → Fine place → Fits m place s → (f : Fate) (n : ℕ) → count is_bad s + losses (f ∷ []) ≤ n → Keeps n (hears_answer f.up frames (reader_at m place s) (goes_down f.down frames image (card_at m place) (asked (reader_at m place s))))
+  pub keeps : IsImage image → image.is_command command ≡ true → (m : Bool) (place : Place) (s : List ReadBlock) → Fine place → Fits m place s → (f : BlockFate) (n : ℕ) → count is_bad s + losses (f ∷ []) ≤ n → Keeps n (hears_answer f.up frames (reader_at m place s) (goes_down f.down frames image (card_at m place) (asked (reader_at m place s))))
   keeps is legal m place s fine fits f n le = go f.down f.up refl refl
     where
       r : Reader
       r = reader_at m place s
 
-      more_room : (k : ℕ) (t : Turn) → k ≤ n → Keeps k t → Keeps n t
+      more_room : (k : ℕ) (t : ReaderTurn) → k ≤ n → Keeps k t → Keeps n t
       more_room k (Asks r) a b = omega arith
       more_room k (Gives response r) a b = tt
       more_room k (Spends r) a b = omega arith
@@ -359,10 +360,10 @@ module _ (frames : Frames) (image : Image) (before : List (List ℕ)) (command :
           more_room (suc (count is_bad s)) _ (omega (arith, simp one at le)) (keeps_bad r)
 
   -- the exchanges that are left, with few losses
-  Few : List Fate → Type 0
-  Few fates = (m : Bool) (place : Place) (s : List ReadBlock) → Fine place → Fits m place s → count is_bad s ≤ 2 → count is_bad s + losses fates ≤ 2 → IsSafe (run frames image fates (reader_at m place s) (card_at m place))
+  Few : List BlockFate → Type 0
+  Few fates = (m : Bool) (place : Place) (s : List ReadBlock) → Fine place → Fits m place s → count is_bad s ≤ 2 → count is_bad s + losses fates ≤ 2 → IsSafe (run_command frames image fates (reader_at m place s) (card_at m place))
 
-  then_few : (fates : List Fate) → Few fates → (n : ℕ) → n + losses fates ≤ 2 → (t : Turn) (card : Card) → GoodTurn t card → Keeps n t → IsSafe (goes_on (run frames image fates) fates t card)
+  then_few : (fates : List BlockFate) → Few fates → (n : ℕ) → n + losses fates ≤ 2 → (t : ReaderTurn) (card : Card) → GoodTurn t card → Keeps n t → IsSafe (continues (run_command frames image fates) fates t card)
   unfolding Few
   then_few fates few n le (Asks r) card g k =
       let same_count : count is_bad r.since ≡ count is_bad g.2 = ap (λ (x : Reader). count is_bad x.since) g.6 in
@@ -371,10 +372,10 @@ module _ (frames : Frames) (image : Image) (before : List (List ℕ)) (command :
   then_few fates few n le (Spends r) card g k = absurd (omega (arith, k, le))
   then_few fates few n le (Breaks r) card g k = g
 
-  losses_of : (f : Fate) (fates : List Fate) → losses (f ∷ fates) ≡ losses (f ∷ []) + losses fates
+  losses_of : (f : BlockFate) (fates : List BlockFate) → losses (f ∷ fates) ≡ losses (f ∷ []) + losses fates
   losses_of f fates = elim (is_loss f) as (λ (b : Bool). cond b (suc (losses fates)) (losses fates) ≡ cond b 1 0 + losses fates) [ true ↦ omega arith | false ↦ omega arith ]
 
-  few_exchanges : AreFrames frames → IsImage image → image.is_command command ≡ true → (fates : List Fate) → Few fates
+  few_exchanges : AreFrames frames → IsImage image → image.is_command command ≡ true → (fates : List BlockFate) → Few fates
   unfolding Few
   few_exchanges sized is legal [] m place s fine fits le all = tt
   few_exchanges sized is legal (f ∷ fates) m place s fine fits le all =
@@ -392,10 +393,10 @@ one_command_lem frames image fates r card command sized is idle legal =
     let first = (cut (frames.card - 3) command).first in
     let left = (cut (frames.card - 3) command).others in
     let still = idle_card card idle.none_taken idle.none_left in
-    rw (number, fresh) (subst (λ (c : Card). ExactlyOnce image card.log command (run frames image fates (reader_at frames image card.log command card.number (Before card.last [] first left) []) c)) (sym still) (all_exchanges frames image card.log command sized is legal fates card.number (Before card.last [] first left) [] (cut_joins (frames.card - 3) command) (refl, inl refl) (omega arith)))
+    rw (number, fresh) (subst (λ (c : Card). ExactlyOnce image card.log command (run_command frames image fates (reader_at frames image card.log command card.number (Before card.last [] first left) []) c)) (sym still) (all_exchanges frames image card.log command sized is legal fates card.number (Before card.last [] first left) [] (cut_joins (frames.card - 3) command) (refl, inl refl) (omega arith)))
 
 -- two losses at most
-pub few_lem : (frames : Frames) (image : Image) (fates : List Fate) (r : Reader) (card : Card) (command : List ℕ) → AreFrames frames → IsImage image → IsIdle r card → image.is_command command ≡ true → losses fates ≤ 2 → IsSafe (run frames image fates (begin frames.card command r) card)
+pub few_lem : (frames : Frames) (image : CommandRules) (fates : List BlockFate) (r : Reader) (card : Card) (command : List ℕ) → AreFrames frames → IsImage image → IsIdle r card → image.is_command command ≡ true → losses fates ≤ 2 → IsSafe (run_command frames image fates (begin frames.card command r) card)
 unfolding Few
 few_lem frames image fates r card command sized is idle legal le =
     let number : r.number ≡ other card.number = idle.differ in
@@ -403,4 +404,4 @@ few_lem frames image fates r card command sized is idle legal le =
     let first = (cut (frames.card - 3) command).first in
     let left = (cut (frames.card - 3) command).others in
     let still = idle_card card idle.none_taken idle.none_left in
-    rw (number, fresh) (subst (λ (c : Card). IsSafe (run frames image fates (reader_at frames image card.log command card.number (Before card.last [] first left) []) c)) (sym still) (few_exchanges frames image card.log command sized is legal fates card.number (Before card.last [] first left) [] (cut_joins (frames.card - 3) command) (refl, inl refl) (omega arith) (omega arith)))
+    rw (number, fresh) (subst (λ (c : Card). IsSafe (run_command frames image fates (reader_at frames image card.log command card.number (Before card.last [] first left) []) c)) (sym still) (few_exchanges frames image card.log command sized is legal fates card.number (Before card.last [] first left) [] (cut_joins (frames.card - 3) command) (refl, inl refl) (omega arith) (omega arith)))

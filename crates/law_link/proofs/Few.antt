@@ -1,5 +1,5 @@
 -- Few losses, and time: a command is answered.
-use Rattle.ep_base.specs.Link.OneLink.{End, Open, Done, Spent, Breach, run}
+use Rattle.ep_base.specs.Link.OneLink.{End, Open, Done, Spent, Breach, run_command}
 use Rattle.ep_base.specs.Link.ReaderEnd.{begin}
 use Rattle.law_link.specs.Bounds.{IsOver}
 use Rattle.law_link.specs.Once.{IsSafe, IsAnswered, FewLosses}
@@ -14,6 +14,6 @@ both (Breach r card) o s = s
 
 pub few_losses : FewLosses
 few_losses frames image fates r card command sized is idle legal few long =
-    both (run frames image fates (begin frames.card command r) card)
+    both (run_command frames image fates (begin frames.card command r) card)
     (link_ends frames image fates r card command idle.fresh sized.card (is.commands command legal) long)
     (few_lem frames image fates r card command sized is idle legal few)

@@ -1,20 +1,20 @@
 -- Worked exchanges, by computation: whether the definitions say what they mean to say.
 use Rattle.std.proofs.Common.{◌≡◌, ℕ, zero, suc, ◌+◌, true, false, List, [], ◌∷◌, ◌++◌, length, None, refl, replicate}
 use Rattle.ep_base.specs.Link.ReaderEnd.{Reader, Idle, begin}
-use Rattle.ep_base.specs.Link.CardEnd.{Image, Card, Parts}
-use Rattle.ep_base.specs.Link.OneLink.{Frames, Fate, End, Open, Done, Spent, Breach, run}
+use Rattle.ep_base.specs.Link.CardEnd.{CommandRules, Card, Parts}
+use Rattle.ep_base.specs.Link.OneLink.{Frames, BlockFate, End, Open, Done, Spent, Breach, run_command}
 
-pass : Fate
+pass : BlockFate
 pass = record { down = true; up = true }
 
-up_lost : Fate
+up_lost : BlockFate
 up_lost = record { down = true; up = false }
 
-down_lost : Fate
+down_lost : BlockFate
 down_lost = record { down = false; up = true }
 
 -- any bytes are a command; the response has so many bytes
-image_of : ℕ → ℕ → Image
+image_of : ℕ → ℕ → CommandRules
 image_of size wtx = record { is_command = λ bytes. true; answer = λ log. record { response = replicate size 7; wtx = wtx; wtxm = 5 } }
 
 opened : Reader
@@ -23,7 +23,7 @@ opened = record { number = false; phase = Idle; since = [] }
 card_opened : Card
 card_opened = record { number = true; last = None; taken = []; left = Parts []; log = [] }
 
-times : ℕ → List Fate → List Fate
+times : ℕ → List BlockFate → List BlockFate
 times zero fs = []
 times (suc n) fs = fs ++ times n fs
 
@@ -43,9 +43,9 @@ executed_of (Breach r card) = length card.log
 frames_of : ℕ → ℕ → Frames
 frames_of c r = record { card = c; reader = r }
 
-go : ℕ → ℕ → ℕ → ℕ → ℕ → List Fate → End
+go : ℕ → ℕ → ℕ → ℕ → ℕ → List BlockFate → End
 unfolding image_of opened card_opened frames_of
-go c r size wtx command fates = run (frames_of c r) (image_of size wtx) fates (begin c (replicate command 1) opened) card_opened
+go c r size wtx command fates = run_command (frames_of c r) (image_of size wtx) fates (begin c (replicate command 1) opened) card_opened
 
 -- 44 exchanges: 21 blocks of the command, the second part of the response sent twice
 long_chain : left_of (go 16 256 258 0 261 (times 20 (up_lost ∷ pass ∷ []) ++ (pass ∷ down_lost ∷ up_lost ∷ times 5 (pass ∷ [])))) ≡ 4

@@ -11,15 +11,15 @@ ghost use Rattle.law_link.specs.Once.{FewLosses, OneCommand};
 /// exchanges were bad since the reader's last toggle, and it was executed at most once. At every moment before its
 /// end it was executed at most once. No block is ever outside the rules.
 ///
-/// The image's commands have at most 261 bytes, its responses 2 to 258, and at most eight S(WTX) come before one;
-/// frames have at least 16 bytes; the link is between two commands.
+/// The image's commands have at most `COMMAND` bytes, its responses 2 to `RESPONSE`, and at most `ANSWER_WAITS` S(WTX) come
+/// before one; frames have at least 16 bytes; the link is between two commands.
 pub fn one_command()
     ensures { OneCommand }
 {}
 
-/// Whatever the reader hears, and from whatever card: at most 21 exchanges lead from one toggle of its block number
-/// to the next; the link is spent exactly at the third bad hearing since the toggle; a command takes at most 279
-/// toggles; and 279 times 21 exchanges always end it.
+/// Whatever the reader hears, and from whatever card: at most `EXCHANGES` exchanges lead from one toggle of its block number
+/// to the next; the link is spent exactly at the third bad hearing since the toggle; a command takes at most `TOGGLES`
+/// toggles; and `COMMAND_EXCHANGES` exchanges always end it.
 pub fn bounds()
     ensures between { BoundedToggles }
     ensures toggles { FewToggles }

@@ -1,11 +1,12 @@
 -- The transaction of Entry Point closes a card that was found alone.
 use Rattle.std.proofs.Common.{ℕ, zero, suc, ◌+◌, Bool, true, false, List, [], ◌∷◌, Option, Some, None, refl}
 use Rattle.std.specs.Prelude.{if◌then◌else◌}
+use Rattle.ep_base.specs.declared.limits.TheConstants.{ROUNDS}
 use Rattle.ep_base.specs.declared.outcome.OutcomeKind.{OutcomeKind}
 use Rattle.ep_base.specs.declared.outcome.OutcomeKind.TheVariants.{SelectNext, TryAgain, Approved, Declined, OnlineRequest, TryAnother, EndApplication}
 use Rattle.ep_base.specs.declared.outcome.Message.{Message}
 use Rattle.ep_base.specs.Cards.Apdu.{is_9000}
-use Rattle.ep_rules.specs.EntryPoint.PreProcessing.{Ready, any_allowed}
+use Rattle.ep_rules.specs.EntryPoint.PreProcessing.{PreparedOne, any_allowed}
 use Rattle.ep_base.specs.Objects.Directory.{directory}
 use Rattle.ep_rules.specs.EntryPoint.Candidates.{Candidate, candidates}
 use Rattle.ep_base.specs.Air.Heard.{Activated, RoundEnd, Empty, Collision, Unsupported, Broken, Found}
@@ -34,7 +35,7 @@ module _ (message : Message) (next : Activated → Talk) (closes : (card : Activ
 
 start_closes : (next : Activated → Talk) → ((card : Activated) → ClosesFound true (next card)) → ClosesFound false (start_b next)
 unfolding start_b
-start_closes next closes = rounds_close _ next closes 64 false false
+start_closes next closes = rounds_close _ next closes ROUNDS false false
 
 module _ {S : Type 0} (k : KernelSteps S) where
   abbrev AllClose : Bool → (S → Talk) → Type 0
@@ -76,14 +77,14 @@ module _ {S : Type 0} (k : KernelSteps S) where
         | false ↦ selects_closes again a cs s
       ]
 
-  presented_closes : (again : S → Talk) → AllClose false again → (ones : List Ready) (s : S) (card : Activated) → ClosesFound true (presented k again ones s card)
+  presented_closes : (again : S → Talk) → AllClose false again → (ones : List PreparedOne) (s : S) (card : Activated) → ClosesFound true (presented k again ones s card)
   presented_closes again a ones s card = λ r. selects_closes again a (candidates ones (directory r)) s
 
-  starts_close : (ones : List Ready) (n : ℕ) → AllClose false (starts k ones n)
+  starts_close : (ones : List PreparedOne) (n : ℕ) → AllClose false (starts k ones n)
   starts_close ones zero s = start_closes _ (presented_closes _ (λ s. tt) ones s)
   starts_close ones (suc n) s = start_closes _ (presented_closes _ (starts_close ones n) ones s)
 
-  ready_closes : (n : ℕ) (ones : List Ready) (next : Talk) → ClosesFound false next → ClosesFound false (say_ready n ones next)
+  ready_closes : (n : ℕ) (ones : List PreparedOne) (next : Talk) → ClosesFound false next → ClosesFound false (say_ready n ones next)
   ready_closes n [] next x = x
   ready_closes n (one ∷ ones) next x = ready_closes (n + 1) ones next x
 

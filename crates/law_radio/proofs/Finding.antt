@@ -10,10 +10,10 @@ use Rattle.ep_base.specs.declared.air.CardKind.TheVariants as kinds
 use Rattle.ep_base.specs.Air.Heard.{Activated, same_kind}
 use Rattle.ep_base.specs.Cards.CardAnswer.{Image}
 use Rattle.ep_base.specs.Cards.Field.{Placed}
-use Rattle.ep_base.specs.Cards.Lawful.{kind_of, id_of, names, IsApart, AreApart}
+use Rattle.ep_base.specs.Cards.Lawful.{kind_of, id_of, names, IsUnlike, AreApart}
 use Rattle.law_round.proofs.Lawfulness.{begins_lawful_law}
 use Rattle.ep_base.specs.Cards.Numbers.{numbers, IsOther, AreDistinct, AreNumbered, HaveImages}
-use Rattle.ep_claim.specs.Promise.Cards.{is_card, number_in, image_in, NewFieldIsNew}
+use Rattle.ep_claim.specs.Promise.Cards.{is_card, number_of_card, image_in, NewFieldIsNew}
 
 kind_is : (a b : CardKind) → same_kind a b ≡ true → a ≡ b
 kind_is kinds.A kinds.A e = refl
@@ -43,7 +43,7 @@ is_another card p q apart kind id =
       | false ↦ λ e. refl
     ] refl
 
-numbered_more : (p : Placed) (f : Activated → ℕ) (qs : List Placed) → IsApart (kind_of p.outside, id_of p.outside) (names qs) → AreNumbered f qs
+numbered_more : (p : Placed) (f : Activated → ℕ) (qs : List Placed) → IsUnlike (kind_of p.outside, id_of p.outside) (names qs) → AreNumbered f qs
     → AreNumbered (λ card. if is_card card.kind card.id p then p.party.image.number else f card) qs
 numbered_more p f [] d x = tt
 numbered_more p f (q ∷ qs) d x = (
@@ -51,11 +51,11 @@ numbered_more p f (q ∷ qs) d x = (
   numbered_more p f qs d.1 x.1,
 )
 
-pub numbered_in : (ps : List Placed) → AreApart (names ps) → AreNumbered (number_in ps) ps
+pub numbered_in : (ps : List Placed) → AreApart (names ps) → AreNumbered (number_of_card ps) ps
 numbered_in [] d = tt
 numbered_in (p ∷ ps) d = (
-  λ card kind id. ap (λ b. if b then p.party.image.number else number_in ps card) (is_itself card p kind id),
-  numbered_more p (number_in ps) ps d.0 (numbered_in ps d.1),
+  λ card kind id. ap (λ b. if b then p.party.image.number else number_of_card ps card) (is_itself card p kind id),
+  numbered_more p (number_of_card ps) ps d.0 (numbered_in ps d.1),
 )
 
 have_more : (p : Placed) (f : ℕ → Image) (qs : List Placed) → IsOther p.party.image.number (numbers qs) → HaveImages f qs
@@ -74,8 +74,8 @@ have_in (p ∷ ps) d = (
 )
 
 pub new_field_law : NewFieldIsNew
-new_field_law cards presence fates room fsdi placed apart distinct passages = record {
-  lawful = begins_lawful_law.2 cards presence fates room placed apart passages;
+new_field_law cards presence fates room fsdi placed apart distinct exchange_fates = record {
+  lawful = begins_lawful_law.2 cards presence fates room placed apart exchange_fates;
   numbered = numbered_in cards apart;
   distinct = distinct;
   have = have_in cards distinct;

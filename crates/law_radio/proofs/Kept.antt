@@ -1,10 +1,10 @@
 -- Each step of a talk adds the same to what was heard and executed as to the perfect run.
 use Rattle.std.proofs.Common.{◌≡◌, inl, inr, ℕ, suc, List, ◌∷◌, refl, sym, ap, ◌∙◌, append-nil}
 use Rattle.ep_base.specs.Air.Heard.{RoundEnd}
-use Rattle.ep_rules.specs.EntryPoint.Event.{Told, Said, Tells, Apdu}
+use Rattle.ep_rules.specs.EntryPoint.Event.{OwnEvent, Event as EventData, Tells, Apdu}
 use Rattle.ep_rules.specs.EntryPoint.Talk.{Talk, Say, Poll, Command, Close, Result, Round, Response, Closed, Nothing, so_far}
 use Rattle.ep_rules.specs.EntryPoint.TransportRun.{HearEnd, Whole, AtLink, AtBreach, AtDevice, said_for}
-use Rattle.ep_rules.specs.EntryPoint.Perfect.{Perfect, gave, executes}
+use Rattle.ep_rules.specs.EntryPoint.Perfect.{Perfect, gave, with_command}
 use Rattle.ep_base.specs.Cards.Field.{Field}
 use Rattle.ep_claim.specs.Promise.Perfection.{EndsInLink, Keeps}
 
@@ -21,7 +21,7 @@ Kept Third talk heard log p AtLink = (e : EndsInLink talk heard (said_for talk h
 Kept Third talk heard log p AtBreach = ⊥
 Kept Third talk heard log p AtDevice = ⊥
 
-pub say_kept : (Third : List ℕ → Type 0) (x : Told) (next : Talk) (heard : List Result) (log : List (ℕ × List ℕ)) (p : Perfect) (ending : HearEnd) → Kept Third next heard log p ending → Kept Third (Say x next) heard log p ending
+pub say_kept : (Third : List ℕ → Type 0) (x : OwnEvent) (next : Talk) (heard : List Result) (log : List (ℕ × List ℕ)) (p : Perfect) (ending : HearEnd) → Kept Third next heard log p ending → Kept Third (Say x next) heard log p ending
 say_kept Third x next heard log p Whole r = record { results = r.results; executed = r.executed; over = r.over }
 say_kept Third x next heard log p AtLink (r, third) = (
   record {
@@ -31,8 +31,8 @@ say_kept Third x next heard log p AtLink (r, third) = (
     response = r.response;
     before = Tells x ∷ r.before;
     after = r.after;
-    perfect_said = ap (λ (l : List Said). Tells x ∷ l) r.perfect_said;
-    said = ap (λ (l : List Said). Tells x ∷ l) r.said;
+    perfect_said = ap (λ (l : List EventData). Tells x ∷ l) r.perfect_said;
+    said = ap (λ (l : List EventData). Tells x ∷ l) r.said;
     earlier = r.earlier;
     later = r.later;
     perfect_executed = r.perfect_executed;
@@ -92,7 +92,7 @@ close_kept Third next heard log p AtBreach r = r
 close_kept Third next heard log p AtDevice r = r
 
 pub answer_kept : (Third : List ℕ → Type 0) (n : ℕ) (c a : List ℕ) (next : List ℕ → Talk) (heard : List Result) (log : List (ℕ × List ℕ)) (p : Perfect) (ending : HearEnd) → Kept Third (next a) heard log p ending
-    → Kept Third (Command c next) (Response a ∷ heard) ((n, c) ∷ log) (executes n c (gave (Response a) p)) ending
+    → Kept Third (Command c next) (Response a ∷ heard) ((n, c) ∷ log) (with_command n c (gave (Response a) p)) ending
 answer_kept Third n c a next heard log p Whole r = record {
   results = ap (λ (l : List Result). Response a ∷ l) r.results;
   executed = ap (λ (l : List (ℕ × List ℕ)). (n, c) ∷ l) r.executed;
@@ -106,8 +106,8 @@ answer_kept Third n c a next heard log p AtLink (r, third) = (
     response = r.response;
     before = Apdu c a ∷ r.before;
     after = r.after;
-    perfect_said = ap (λ (l : List Said). Apdu c a ∷ l) r.perfect_said;
-    said = ap (λ (l : List Said). Apdu c a ∷ l) r.said;
+    perfect_said = ap (λ (l : List EventData). Apdu c a ∷ l) r.perfect_said;
+    said = ap (λ (l : List EventData). Apdu c a ∷ l) r.said;
     earlier = (n, c) ∷ r.earlier;
     later = r.later;
     perfect_executed = ap (λ (l : List (ℕ × List ℕ)). (n, c) ∷ l) r.perfect_executed;

@@ -4,7 +4,7 @@ use Rattle.std.proofs.lemmas.Bool.{and_parts}
 use Rattle.ep_base.specs.declared.air.CardKind.{CardKind}
 use Rattle.ep_base.specs.Air.Heard.{Activated, RoundEnd, Found}
 use Rattle.ep_base.specs.Link.CardEnd.{Card, is_halted}
-use Rattle.ep_base.specs.Link.Dialogue.{opened}
+use Rattle.ep_base.specs.Link.Dialogue.{opened_reader}
 use Rattle.ep_base.specs.Link.LinkFrames.{LinkSetting}
 use Rattle.ep_base.specs.Air.Medium.{told}
 use Rattle.ep_base.specs.Poll.Polling.{Came, PlaysRounds}
@@ -15,8 +15,8 @@ use Rattle.law_round.specs.Inside.{is_out, all_out}
 use Rattle.ep_base.specs.Cards.Lawful.{kind_of, id_of, Lawful, faces, reset_faces}
 use Rattle.law_round.specs.Linked as linked
 use Rattle.law_round.specs.Polled.{SameCards}
-use Rattle.law_round.specs.Acting.{is_link, linked_at, are_passages, is_open, party_at, shown}
-use Rattle.law_round.proofs.Acting.{Place, Link, from_link, passages_truth}
+use Rattle.law_round.specs.Acting.{is_link, linked_at, are_fates, is_open, party_at, shown}
+use Rattle.law_round.proofs.Acting.{Place, Link, from_link, fates_truth}
 use Rattle.law_round.proofs.Linking.{links_one_law, keeps_cards_law}
 use Rattle.law_round.proofs.Polling.{polls_quietly_law, polls_ready_law}
 
@@ -50,7 +50,7 @@ pub record Arrived (m : ℕ) (card : Activated) (set : LinkSetting) (s t : Field
   pub id : id_of one.outside ≡ card.id
   pub party : party_at (length before) t.cards ≡ one.party
   pub is : is_open set.kind (length before) t ≡ true
-  pub ready : 0 < m → OfLink set (shown (length before) t) × AtRest opened (shown (length before) t).party.card
+  pub ready : 0 < m → OfLink set (shown (length before) t) × AtRest opened_reader (shown (length before) t).party.card
   pub stay : faces t.cards ≡ reset_faces s.cards
   pub there : t.air.gone ≡ false
 
@@ -65,7 +65,7 @@ arrives zero fsdi rounds s t ends card l x room =
     let there : linked_at card.kind t.air.gone n t.cards ≡ true =
     ap (λ gone. linked_at card.kind gone n t.cards) y.7 ∙ ap (λ ps. linked_at card.kind false n ps) y.3
     ∙ linked_there card.kind y.0 y.1 y.2 (from_link card.kind false y.1 (fresh_link fsdi card y.1 y.4)) y.5 y.6 in
-    let passages : are_passages t.air.fates ≡ true = passages_truth t.air.fates quiet.1.fates in
+    let exchange_fates : are_fates t.air.fates ≡ true = fates_truth t.air.fates quiet.1.fates in
     record {
       before = y.0;
       one = y.1;
@@ -74,7 +74,7 @@ arrives zero fsdi rounds s t ends card l x room =
       kind = y.4.kind;
       id = y.4.id;
       party = ap (λ ps. party_at n ps) y.3 ∙ party_there y.0 y.1 y.2;
-      is = rw (there, passages) refl;
+      is = rw (there, exchange_fates) refl;
       ready = λ (some : 0 < 0). absurd (omega (arith, some));
       stay = (keeps_cards_law fsdi u t (Some (Found card)) quiet.3.1 quiet.3.3).3 ∙ same.cards;
       there = y.7;

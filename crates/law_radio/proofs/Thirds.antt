@@ -2,7 +2,7 @@
 use Rattle.std.proofs.Common.{◌≡◌, List, [], ◌∷◌, sym, subst}
 use Rattle.ep_base.specs.Air.Heard.{Heard}
 use Rattle.ep_base.specs.Link.Block.{ReadBlock}
-use Rattle.ep_base.specs.Link.ReaderEnd.{Reader, Turn, Asks, Gives, Spends, Breaks}
+use Rattle.ep_base.specs.Link.ReaderEnd.{Reader, ReaderTurn, Asks, Gives, Spends, Breaks}
 use Rattle.ep_base.specs.Link.LinkFrames.{LinkSetting, heard_block}
 use Rattle.ep_base.specs.Air.Medium.{MediumSteps}
 use Rattle.ep_base.specs.Link.Carry.{turn_on, GoesOn, Follows}
@@ -13,10 +13,10 @@ module _ {S : Type 0} (steps : MediumSteps S) (set : LinkSetting) where
   read [] = []
   read (h ∷ hs) = heard_block set.kind set.frames.reader h ∷ read hs
 
-  abbrev pub After : List Heard → Turn → Turn
+  abbrev pub After : List Heard → ReaderTurn → ReaderTurn
   After hs turn = after_all set.frames.reader (read hs) turn
 
-  goes : (next : Turn) (hs : List Heard) (s t : S) (turn : Turn) → ((q : Reader) → Follows steps set hs q s turn t → turn ≡ After hs (Asks q))
+  goes : (next : ReaderTurn) (hs : List Heard) (s t : S) (turn : ReaderTurn) → ((q : Reader) → Follows steps set hs q s turn t → turn ≡ After hs (Asks q))
       → GoesOn (λ q v. Follows steps set hs q v turn t) next hs s turn t → turn ≡ After hs next
   unfolding read
   goes (Asks q) hs s t turn more x = more q x
@@ -24,7 +24,7 @@ module _ {S : Type 0} (steps : MediumSteps S) (set : LinkSetting) where
   goes (Spends q) hs s t turn more x = subst (λ ys. turn ≡ After ys (Spends q)) (sym x.0) x.1
   goes (Breaks q) hs s t turn more x = subst (λ ys. turn ≡ After ys (Breaks q)) (sym x.0) x.1
 
-  pub turn_is : (hs : List Heard) (r : Reader) (s t : S) (turn : Turn) → Follows steps set hs r s turn t → turn ≡ After hs (Asks r)
+  pub turn_is : (hs : List Heard) (r : Reader) (s t : S) (turn : ReaderTurn) → Follows steps set hs r s turn t → turn ≡ After hs (Asks r)
   unfolding read
   turn_is [] r s t turn x = x.0
   turn_is (h ∷ hs) r s t turn x = goes (turn_on set r h) hs x.0 t turn (λ q y. turn_is hs q x.0 t turn y) x.2

@@ -1,6 +1,6 @@
 -- The transaction of Entry Point as a talk that a log carries (this project's own).
 use Rattle.std.specs.Prelude.{ℕ, ◌<◌, List, length}
-use Rattle.ep_rules.specs.EntryPoint.PreProcessing.{Ready}
+use Rattle.ep_rules.specs.EntryPoint.PreProcessing.{PreparedOne}
 use Rattle.ep_rules.specs.EntryPoint.Kernel.{KernelSteps}
 use Rattle.ep_rules.specs.EntryPoint.KernelCounts.{FallingCounts}
 use Rattle.ep_rules.specs.EntryPoint.KernelCommands.{SendsCommands}
@@ -12,6 +12,6 @@ use Rattle.ep_claim.specs.Promise.Perfection.{IsCarried}
 -- (this project's own).
 abbrev pub TransactionIsCarried : {S : Type 0} → KernelSteps S → Type 0
 TransactionIsCarried {S} k =
-    (txn_type amount : ℕ) (ones : List Ready) (kernel : S) (room : ℕ) →
+    (txn_type amount : ℕ) (ones : List PreparedOne) (kernel : S) (room : ℕ) →
     FallingCounts k → SendsCommands k kernel → log_bound (k.restarts kernel) (length ones) (k.commands kernel) < room →
     IsCarried (transaction k txn_type amount ones kernel) room

@@ -14,12 +14,12 @@ use Rattle.ep_base.specs.Link.Spelling.{spelled}
 use Rattle.ep_base.specs.Link.CardEnd.{is_halted}
 use Rattle.ep_base.specs.Link.LinkFrames.{LinkSetting}
 use Rattle.ep_base.specs.Air.Fates.{Way, Bursts, Leaves, IsWay, Fate, AreFates, next_fate, fates_after, gone_by}
-use Rattle.ep_base.specs.Air.Fates as legs
+use Rattle.ep_base.specs.Air.Fates as ways
 use Rattle.ep_base.specs.Link.Wire.{Party, Heeded, unmoved, takes_opened, takes_frame, takes_down, aired, comes_down, comes_back, Wire, moved, wire_heeds, wire_send}
-use Rattle.ep_base.specs.Cards.Field.{Outside, OfA, OfB, outside_after, outside_reply, outside_halted, outside_reset, Placed, Told, untouched, by_link, by_reply, hears_frame, one_hears, CardsHeard, maybe_answer, and_then, all_hear, joined, left_by, leaves, away, Field, all_take, field_hears, field_after, field_send}
+use Rattle.ep_base.specs.Cards.Field.{Outside, OfA, OfB, outside_after, outside_reply, outside_halted, outside_reset, Placed, CardAfter, untouched, by_link, by_reply, hears_frame, one_hears, CardsHeard, maybe_answer, and_then, all_hear, joined, left_by, leaves, away, Field, all_take, field_hears, field_after, field_send}
 use Rattle.law_round.specs.Inside.{is_inside, is_out, all_out}
 use Rattle.ep_base.specs.Cards.Lawful.{kind_of, names, faces}
-use Rattle.law_round.specs.Acting.{is_way, are_passages, is_link, linked_at, is_open, party_at, without, shown, OthersStay, FieldActs}
+use Rattle.law_round.specs.Acting.{is_way, are_fates, is_link, linked_at, is_open, party_at, without, shown, OthersStay, FieldActs}
 use Rattle.law_round.proofs.Presenting.{either}
 use Rattle.law_round.proofs.Lawfulness.{frame_keeps, names_send}
 use Rattle.law_round.proofs.Rounds.{faces_left}
@@ -47,29 +47,29 @@ kind_itself : (a : CardKind) → same_kind a a ≡ true
 kind_itself kinds.A = refl
 kind_itself kinds.B = refl
 
-pub leg_is : (l : Way) → is_way l ≡ true → IsWay l
-leg_is legs.Passes e = tt
-leg_is legs.Loses e = tt
-leg_is (Bursts start mask) e = leb-true _ _ e
-leg_is Leaves e = tt
+pub way_is : (l : Way) → is_way l ≡ true → IsWay l
+way_is ways.Passes e = tt
+way_is ways.Loses e = tt
+way_is (Bursts start mask) e = leb-true _ _ e
+way_is Leaves e = tt
 
-leg_truth : (l : Way) → IsWay l → is_way l ≡ true
-leg_truth legs.Passes e = refl
-leg_truth legs.Loses e = refl
-leg_truth (Bursts start mask) e = le-leb _ _ e
-leg_truth Leaves e = refl
+way_truth : (l : Way) → IsWay l → is_way l ≡ true
+way_truth ways.Passes e = refl
+way_truth ways.Loses e = refl
+way_truth (Bursts start mask) e = le-leb _ _ e
+way_truth Leaves e = refl
 
-pub passages_truth : (fates : List Fate) → AreFates fates → are_passages fates ≡ true
-passages_truth [] e = refl
-passages_truth (f ∷ fates) e = rw (leg_truth f.down e.0, leg_truth f.up e.1, passages_truth fates e.2) refl
+pub fates_truth : (fates : List Fate) → AreFates fates → are_fates fates ≡ true
+fates_truth [] e = refl
+fates_truth (f ∷ fates) e = rw (way_truth f.down e.0, way_truth f.up e.1, fates_truth fates e.2) refl
 
-pub next_down : (fates : List Fate) → are_passages fates ≡ true → IsWay (next_fate fates).down
+pub next_down : (fates : List Fate) → are_fates fates ≡ true → IsWay (next_fate fates).down
 next_down [] e = tt
-next_down (f ∷ fates) e = leg_is f.down (and_parts (is_way f.down) (is_way f.up && are_passages fates) e).0
+next_down (f ∷ fates) e = way_is f.down (and_parts (is_way f.down) (is_way f.up && are_fates fates) e).0
 
-next_passages : (fates : List Fate) → are_passages fates ≡ true → are_passages (fates_after fates) ≡ true
-next_passages [] e = refl
-next_passages (f ∷ fates) e = (and_parts (is_way f.up) (are_passages fates) (and_parts (is_way f.down) (is_way f.up && are_passages fates) e).1).1
+next_are_fates : (fates : List Fate) → are_fates fates ≡ true → are_fates (fates_after fates) ≡ true
+next_are_fates [] e = refl
+next_are_fates (f ∷ fates) e = (and_parts (is_way f.up) (are_fates fates) (and_parts (is_way f.down) (is_way f.up && are_fates fates) e).1).1
 
 abbrev pub Place : Bool → Outside → Type 0
 Place halted o = (if halted then is_out o else is_inside o) ≡ true
@@ -119,7 +119,7 @@ halted_kind (OfA p s) = refl
 halted_kind (OfB p s) = refl
 
 -- a card does what its end of the link does, and keeps the link
-record Acts (kind : CardKind) (gone : Bool) (t : Told) (e : Heeded) : Type 0 where
+record Acts (kind : CardKind) (gone : Bool) (t : CardAfter) (e : Heeded) : Type 0 where
   party : t.card.party ≡ e.party
   executed : t.executed ≡ e.executed
   answer : t.answer ≡ e.answer
@@ -157,7 +157,7 @@ module _ (kind : CardKind) (gone : Bool) (bytes : List ℕ) (block : IsBlock (op
       let silent : takes_frame p.party (wave_of_kind kind) bytes ≡ unmoved p.party =
       ap (λ x. if same_wave (wave_of_kind kind) (wave_of_kind p.party.kind) && not x then takes_opened p.party (opened (wave_of_kind kind) bytes) else unmoved p.party) e
       ∙ skip_last (same_wave (wave_of_kind kind) (wave_of_kind p.party.kind)) (takes_opened p.party (opened (wave_of_kind kind) bytes)) (unmoved p.party) in
-      subst (λ (t : Told). Acts kind gone t (takes_frame p.party (wave_of_kind kind) bytes)) (sym (still (wave_of_kind kind) bytes p k.0 k.1))
+      subst (λ (t : CardAfter). Acts kind gone t (takes_frame p.party (wave_of_kind kind) bytes)) (sym (still (wave_of_kind kind) bytes p k.0 k.1))
       (subst (λ (h : Heeded). Acts kind gone (untouched p) h) (sym silent) (rests kind gone p l))
   by_halted p false e l =
       let inside : is_inside p.outside ≡ true = subst (λ x. Place x p.outside) e l.place in
@@ -187,7 +187,7 @@ module _ (kind : CardKind) (gone : Bool) (bytes : List ℕ) (block : IsBlock (op
     linked : linked_at kind gone n h.cards ≡ true
     others : without n h.cards ≡ without n ps
 
-  first_acts : (log : List (ℕ × List ℕ)) (p : Placed) (ps : List Placed) (t : Told) (e : Heeded) → Acts kind gone t e → all_out ps ≡ true
+  first_acts : (log : List (ℕ × List ℕ)) (p : Placed) (ps : List Placed) (t : CardAfter) (e : Heeded) → Acts kind gone t e → all_out ps ≡ true
       → AllAct zero log (p ∷ ps) (and_then t (record { cards = ps; log = log ++ t.executed; answers = [] })) e
   first_acts log p ps t e a out =
       let is : is_link kind gone t.card ≡ true = from_link kind gone t.card a.link in
@@ -249,17 +249,17 @@ linked_after : (kind : CardKind) (gone : Bool) (n : ℕ) (d u : Way) (ps : List 
     → linked_at kind (gone_by (gone_by gone d) u) n (if leaves d || leaves u then left_by ps else ps) ≡ true
 linked_after kind true n d u ps l = either (λ qs. linked_at kind true n qs ≡ true) (leaves d || leaves u) (left_by ps) ps (left_linked kind true n ps l) l
 linked_after kind false n Leaves u ps l = left_linked kind false n ps l
-linked_after kind false n legs.Passes Leaves ps l = left_linked kind false n ps l
-linked_after kind false n legs.Passes legs.Passes ps l = l
-linked_after kind false n legs.Passes legs.Loses ps l = l
-linked_after kind false n legs.Passes (Bursts start mask) ps l = l
-linked_after kind false n legs.Loses Leaves ps l = left_linked kind false n ps l
-linked_after kind false n legs.Loses legs.Passes ps l = l
-linked_after kind false n legs.Loses legs.Loses ps l = l
-linked_after kind false n legs.Loses (Bursts start mask) ps l = l
+linked_after kind false n ways.Passes Leaves ps l = left_linked kind false n ps l
+linked_after kind false n ways.Passes ways.Passes ps l = l
+linked_after kind false n ways.Passes ways.Loses ps l = l
+linked_after kind false n ways.Passes (Bursts start mask) ps l = l
+linked_after kind false n ways.Loses Leaves ps l = left_linked kind false n ps l
+linked_after kind false n ways.Loses ways.Passes ps l = l
+linked_after kind false n ways.Loses ways.Loses ps l = l
+linked_after kind false n ways.Loses (Bursts start mask) ps l = l
 linked_after kind false n (Bursts start mask) Leaves ps l = left_linked kind false n ps l
-linked_after kind false n (Bursts start mask) legs.Passes ps l = l
-linked_after kind false n (Bursts start mask) legs.Loses ps l = l
+linked_after kind false n (Bursts start mask) ways.Passes ps l = l
+linked_after kind false n (Bursts start mask) ways.Loses ps l = l
 linked_after kind false n (Bursts start mask) (Bursts from other) ps l = l
 
 left_others : (n : ℕ) (ps : List Placed) → faces (without n (left_by ps)) ≡ faces (without n ps)
@@ -283,10 +283,10 @@ module _ (set : LinkSetting) (n : ℕ) (b : Block) (f : Field) (good : is_open s
   frame = sealed wave (spelled b)
 
   linked : linked_at set.kind f.air.gone n f.cards ≡ true
-  linked = (and_parts (linked_at set.kind f.air.gone n f.cards) (are_passages f.air.fates) good).0
+  linked = (and_parts (linked_at set.kind f.air.gone n f.cards) (are_fates f.air.fates) good).0
 
-  passages : are_passages f.air.fates ≡ true
-  passages = (and_parts (linked_at set.kind f.air.gone n f.cards) (are_passages f.air.fates) good).1
+  exchange_fates : are_fates f.air.fates ≡ true
+  exchange_fates = (and_parts (linked_at set.kind f.air.gone n f.cards) (are_fates f.air.fates) good).1
 
   abbrev there : Bool
   there = not f.air.gone && nat_lt (length f.log) f.room
@@ -332,7 +332,7 @@ module _ (set : LinkSetting) (n : ℕ) (b : Block) (f : Field) (good : is_open s
   down = comes_down (next_fate f.air.fates).down wave frame
 
   taken : TakesSame down
-  taken = takes_same down (λ bytes e. comes_block set.kind b (next_fate f.air.fates).down bytes (next_down f.air.fates passages) e)
+  taken = takes_same down (λ bytes e. comes_block set.kind b (next_fate f.air.fates).down bytes (next_down f.air.fates exchange_fates) e)
 
   abbrev heeded : Heeded
   heeded = wire_heeds (shown n f) wave frame
@@ -348,7 +348,7 @@ module _ (set : LinkSetting) (n : ℕ) (b : Block) (f : Field) (good : is_open s
   same_party = party_after n (away (next_fate f.air.fates)) cards_heard.cards ∙ taken.party
 
   abbrev wire_with : Party → List (ℕ × List ℕ) → Wire
-  wire_with p l = record { party = p; log = l; room = f.room; air = legs.later f.air; exchanges = min (f.exchanges + 1) (2 ^ 64 - 1) }
+  wire_with p l = record { party = p; log = l; room = f.room; air = ways.later f.air; exchanges = min (f.exchanges + 1) (2 ^ 64 - 1) }
 
   same_wire : moved (shown n f) heeded ≡ shown n (field_after f cards_heard)
   same_wire = ap (λ p. wire_with p (f.log ++ heeded.executed)) (sym same_party) ∙ ap (λ l. wire_with (party_at n (if away (next_fate f.air.fates) then left_by cards_heard.cards else cards_heard.cards)) l) (sym taken.log)
@@ -361,7 +361,7 @@ module _ (set : LinkSetting) (n : ℕ) (b : Block) (f : Field) (good : is_open s
   pub stays_good : is_open set.kind n (field_send f wave frame).1 ≡ true
   stays_good =
       let first = linked_after set.kind f.air.gone n (next_fate f.air.fates).down (next_fate f.air.fates).up cards_heard.cards taken.stays in
-      let rest = next_passages f.air.fates passages in
+      let rest = next_are_fates f.air.fates exchange_fates in
       rw (first, rest) refl
 
   pub others_same : faces (without n (field_send f wave frame).1.cards) ≡ faces (without n f.cards)

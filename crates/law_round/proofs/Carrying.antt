@@ -1,7 +1,7 @@
 -- A command over an open link of a field is one over the link's wire.
 use Rattle.std.proofs.Common.{◌≡◌, ℕ, true, List, [], ◌∷◌, Option, Some, sym, ◌∙◌, subst, refl}
 use Rattle.ep_base.specs.Air.Heard.{Heard, wave_of_kind}
-use Rattle.ep_base.specs.Link.ReaderEnd.{Reader, Turn, Asks, Gives, Spends, Breaks, asked}
+use Rattle.ep_base.specs.Link.ReaderEnd.{Reader, ReaderTurn, Asks, Gives, Spends, Breaks, asked}
 use Rattle.ep_base.specs.Link.LinkFrames.{LinkSetting}
 use Rattle.ep_base.specs.Air.Medium.{told}
 use Rattle.ep_base.specs.Link.Carry.{SendsBlock, turn_on, GoesOn, Follows, OfLink}
@@ -25,14 +25,14 @@ once_in_field_law set n s r command hs turn t good of rest legal x =
 -- ---- what each exchange keeps
 
 module _ (set : LinkSetting) (n : ℕ) (P : Field → Type 0) (step : (s t : Field) (b : Block) (heard : Option Heard) → is_open set.kind n s ≡ true → SendsBlock (told field) set s b heard t → P s → P t) where
-  goes_along : (next : Turn) (hs : List Heard) (s : Field) (turn : Turn) (t : Field) → P s
+  goes_along : (next : ReaderTurn) (hs : List Heard) (s : Field) (turn : ReaderTurn) (t : Field) → P s
       → ((q : Reader) → Follows (told field) set hs q s turn t → P t) → GoesOn (λ q v. Follows (told field) set hs q v turn t) next hs s turn t → P t
   goes_along (Asks q) hs s turn t p more x = more q x
   goes_along (Gives response q) hs s turn t p more x = subst P (sym x.2) p
   goes_along (Spends q) hs s turn t p more x = subst P (sym x.2) p
   goes_along (Breaks q) hs s turn t p more x = subst P (sym x.2) p
 
-  pub along : (hs : List Heard) (r : Reader) (s : Field) (turn : Turn) (t : Field) → is_open set.kind n s ≡ true → P s → Follows (told field) set hs r s turn t → P t
+  pub along : (hs : List Heard) (r : Reader) (s : Field) (turn : ReaderTurn) (t : Field) → is_open set.kind n s ≡ true → P s → Follows (told field) set hs r s turn t → P t
   along [] r s turn t good p x = subst P (sym x.1) p
   along (h ∷ hs) r s turn t good p x =
       let u = x.0 in

@@ -8,21 +8,21 @@ use Rattle.ep_base.specs.Link.Spelling.{spelled}
 use Rattle.ep_base.specs.Air.Fates.{Fate, AreFates}
 use Rattle.ep_base.specs.Link.Wire.{Wire, wire_send}
 use Rattle.law_wire.proofs.Passing.{closes_quietly}
-use Rattle.law_round.specs.Acting.{is_way, linked_at, are_passages, shown}
+use Rattle.law_round.specs.Acting.{is_way, linked_at, are_fates, shown}
 use Rattle.law_round.specs.Once.{ClosesQuietly}
-use Rattle.law_round.proofs.Acting.{leg_is, field_acts_law}
+use Rattle.law_round.proofs.Acting.{way_is, field_acts_law}
 
-passages_are : (fates : List Fate) → are_passages fates ≡ true → AreFates fates
-passages_are [] e = tt
-passages_are (f ∷ fates) e =
-    let a = and_parts (is_way f.down) (is_way f.up && are_passages fates) e in
-    let b = and_parts (is_way f.up) (are_passages fates) a.1 in
-    (leg_is f.down a.0, leg_is f.up b.0, passages_are fates b.1)
+fates_are : (fates : List Fate) → are_fates fates ≡ true → AreFates fates
+fates_are [] e = tt
+fates_are (f ∷ fates) e =
+    let a = and_parts (is_way f.down) (is_way f.up && are_fates fates) e in
+    let b = and_parts (is_way f.up) (are_fates fates) a.1 in
+    (way_is f.down a.0, way_is f.up b.0, fates_are fates b.1)
 
 pub closes_quietly_law : ClosesQuietly
 closes_quietly_law set n s t heard good sends =
     let a = field_acts_law set n s Deselect heard t good sends in
-    let passages = (and_parts (linked_at set.kind s.air.gone n s.cards) (are_passages s.air.fates) good).1 in
-    let quiet = closes_quietly set.kind (shown n s) (passages_are s.air.fates passages) in
+    let exchange_fates = (and_parts (linked_at set.kind s.air.gone n s.cards) (are_fates s.air.fates) good).1 in
+    let quiet = closes_quietly set.kind (shown n s) (fates_are s.air.fates exchange_fates) in
     let same : (wire_send (shown n s) (wave_of_kind set.kind) (sealed (wave_of_kind set.kind) (spelled Deselect))).1 ≡ shown n t = ap (λ (x : Option Heard × Wire). x.1) a.0 in
     (sym (ap (λ (x : Wire). x.log) same) ∙ quiet.0, sym (ap (λ (x : Wire). x.party.image) same) ∙ quiet.1, a.1)

@@ -8,10 +8,10 @@ use Rattle.ep_base.specs.declared.activation.AtsFault.{AtsFault}
 use Rattle.ep_base.specs.declared.activation.Atqb.{Atqb}
 use Rattle.ep_base.specs.declared.activation.AtqbFault.{AtqbFault}
 use Rattle.ep_base.specs.Cards.Activation.{ats, atqb, bit}
-use Rattle.ep_base.specs.Air.Heard.{Heard, RoundEnd, Turn, Goes, Ends, is_silent}
+use Rattle.ep_base.specs.Air.Heard.{Heard, RoundEnd, RoundTurn, Goes, Ends, is_silent}
 use Rattle.ep_base.specs.Cards.TypeA.{AStage, Woken, Level, Select, Complete, is_level, continues, a_says, after_sak, after_ats}
 use Rattle.ep_base.specs.Cards.TypeB.{BStage, b_says, after_atqb}
-use Rattle.ep_base.specs.Poll.Round.{Stage, Waking, Halting, WakingB, InA, InB, round_hears, in_a, in_b, goes_on}
+use Rattle.ep_base.specs.Poll.Round.{Stage, Waking, Halting, WakingB, InA, InB, round_hears, in_a, in_b, round_goes_on}
 use Rattle.law_round.specs.Ending.{EndsInEleven}
 use Rattle.law_round.proofs.Presenting.{either, when, answered}
 
@@ -22,7 +22,7 @@ a_left (Level n before) = 9 - 2 * n
 a_left (Select n before part) = 8 - 2 * n
 a_left (Complete read) = 1
 
-abbrev pub left : Turn Stage → ℕ
+abbrev pub left : RoundTurn Stage → ℕ
 left (Goes Waking) = 11
 left (Goes Halting) = 10
 left (Goes (WakingB woke)) = 9
@@ -37,7 +37,7 @@ AtMostThree (Level n before) = (1 ≤ n) × (n ≤ 3)
 AtMostThree (Select n before part) = (1 ≤ n) × (n ≤ 3)
 AtMostThree (Complete read) = Unit {0}
 
-abbrev pub Leveled : Turn Stage → Type 0
+abbrev pub Leveled : RoundTurn Stage → Type 0
 Leveled (Goes Waking) = Unit {0}
 Leveled (Goes Halting) = Unit {0}
 Leveled (Goes (WakingB woke)) = Unit {0}
@@ -45,7 +45,7 @@ Leveled (Goes (InA stage)) = AtMostThree stage
 Leveled (Goes (InB stage)) = Unit {0}
 Leveled (Ends e) = Unit {0}
 
-abbrev pub Leaves : ℕ → Turn Stage → Type 0
+abbrev pub Leaves : ℕ → RoundTurn Stage → Type 0
 Leaves k t = Leveled t × (left t ≤ k)
 
 next_level : (n : ℕ) (before part : List ℕ) → 1 ≤ n → continues n part ≡ true → Leaves (7 - 2 * n) (in_a (Goes (Level (n + 1) (before ++ take 3 (drop 1 part)))))
@@ -55,7 +55,7 @@ next_level n before part f c =
 
 sak_leaves : (n : ℕ) (before part : List ℕ) (sak : ℕ) → 1 ≤ n → n ≤ 3 → Leaves (7 - 2 * n) (in_a (after_sak n before part sak))
 sak_leaves n before part sak f l =
-    let P : Turn AStage → Type 0 = λ t. Leaves (7 - 2 * n) (in_a t) in
+    let P : RoundTurn AStage → Type 0 = λ t. Leaves (7 - 2 * n) (in_a t) in
     either P (bit sak 4 == 1) _ _
     (when P (continues n part) _ _ (λ c. next_level n before part f c) (λ c. (tt, omega arith)))
     (either P (continues n part) _ _ (tt, omega arith) (either P (bit sak 32 == 1) _ _ (tt, omega (arith, l)) (tt, omega arith)))
@@ -76,7 +76,7 @@ a_leaves (Level n before) heard h =
     answered (λ t. Leaves (9 - 2 * n - 1) (in_a t)) (a_says (Level n before)) ABare heard (tt, omega arith) (tt, omega arith)
     (λ m. either (λ t. Leaves (9 - 2 * n - 1) (in_a t)) (is_level m) _ _ (h, omega arith) (tt, omega arith))
 a_leaves (Select n before part) heard h =
-    let P : Turn AStage → Type 0 = λ t. Leaves (8 - 2 * n - 1) (in_a t) in
+    let P : RoundTurn AStage → Type 0 = λ t. Leaves (8 - 2 * n - 1) (in_a t) in
     answered P (a_says (Select n before part)) A heard (tt, omega arith) (tt, omega arith)
     (λ m. either P (length m == 1) _ _
     (let x = sak_leaves n before part (slice_index m 0) h.0 h.1 in (x.0, omega (arith, x.1))) (tt, omega arith))
@@ -111,7 +111,7 @@ one_left (WakingB woke) h = omega arith
 one_left (InA stage) h = a_one stage h
 one_left (InB stage) h = omega arith
 
-ends_by : (t : Turn Stage) (answers : List Heard) → Leveled t → left t ≤ length answers → (e : RoundEnd) × (goes_on t answers ≡ Ends e)
+ends_by : (t : RoundTurn Stage) (answers : List Heard) → Leveled t → left t ≤ length answers → (e : RoundEnd) × (round_goes_on t answers ≡ Ends e)
 ends_by (Ends e) [] h l = (e, refl)
 ends_by (Ends e) (a ∷ more) h l = (e, refl)
 ends_by (Goes stage) [] h l = absurd (omega (arith, l, one_left stage h))

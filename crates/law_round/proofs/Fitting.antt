@@ -1,7 +1,7 @@
 -- Where a card can stand while a round goes on, and where at its end.
 use Rattle.std.proofs.Common.{◌≡◌, ℕ, ◌-◌, ◌*◌, ◌≤◌, List, take}
 use Rattle.ep_base.specs.declared.air.CardKind.TheVariants as kinds
-use Rattle.ep_base.specs.Air.Heard.{Activated, RoundEnd, Empty, Collision, Unsupported, Broken, Found, Turn, Goes, Ends}
+use Rattle.ep_base.specs.Air.Heard.{Activated, RoundEnd, Empty, Collision, Unsupported, Broken, Found, RoundTurn, Goes, Ends}
 use Rattle.ep_base.specs.Cards.TypeA.{Woken, Level, Select, Complete, AState, Idle, Ready, Active, Protocol, Halted, levels}
 use Rattle.ep_base.specs.Cards.TypeB.{BState, BIdle, BReady, BProtocol}
 use Rattle.ep_base.specs.Poll.Round.{Stage, Waking, Halting, WakingB, InA, InB}
@@ -73,7 +73,7 @@ EndsA Unsupported uid state = Unit {0}
 EndsA Broken uid state = Unit {0}
 EndsA (Found found) uid state = IsFoundA found uid state
 
-abbrev pub NextA : Turn Stage → List ℕ → AState → Type 0
+abbrev pub NextA : RoundTurn Stage → List ℕ → AState → Type 0
 NextA (Goes stage) uid state = FitsA stage uid state
 NextA (Ends e) uid state = EndsA e uid state
 
@@ -84,11 +84,11 @@ EndsB Unsupported pupi state = Unit {0}
 EndsB Broken pupi state = Unit {0}
 EndsB (Found found) pupi state = IsFoundB found pupi state
 
-abbrev pub NextB : Turn Stage → List ℕ → BState → Type 0
+abbrev pub NextB : RoundTurn Stage → List ℕ → BState → Type 0
 NextB (Goes stage) pupi state = NotOpenB state
 NextB (Ends e) pupi state = EndsB e pupi state
 
 -- what a present card meets while the round goes on, and at its end
-abbrev pub Next : Turn Stage → Outside → Type 0
+abbrev pub Next : RoundTurn Stage → Outside → Type 0
 Next turn (OfA plan state) = NextA turn plan.uid state
 Next turn (OfB plan state) = NextB turn plan.pupi state

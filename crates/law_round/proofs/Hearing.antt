@@ -3,12 +3,12 @@ use Rattle.std.proofs.Common.{◌≡◌, ℕ, nat_lt, ◌&&◌, ◌⊎◌, inl, 
 use Rattle.ep_base.specs.declared.air.Wave.{Wave}
 use Rattle.ep_base.specs.Air.Frame.{opened}
 use Rattle.ep_base.specs.Air.FrameSize.{frame_size}
-use Rattle.ep_base.specs.Air.Heard.{Sent, Heard, Silence, Turn, Goes, CardHear, Mute, Sends, Opens, Passes}
+use Rattle.ep_base.specs.Air.Heard.{Sent, Heard, Silence, RoundTurn, Goes, CardHear, Mute, Sends, Opens, Passes}
 use Rattle.ep_base.specs.Cards.TypeA.{Woken, Level, Select, Complete, APlan, AState, Idle, Ready, Active, Protocol, Halted, a_opened, a_card}
 use Rattle.ep_base.specs.Cards.TypeB.{BPlan, BState, BIdle, BReady, BProtocol, b_opened, b_card}
 use Rattle.ep_base.specs.Poll.Round.{Stage, Waking, Halting, WakingB, InA, InB, round_asks, round_hears}
 use Rattle.ep_base.specs.Link.CardEnd.{fresh_card}
-use Rattle.ep_base.specs.Cards.Field.{Outside, OfA, OfB, outside_after, outside_reply, outside_reset, Placed, Told, untouched, by_reply, hears_frame, one_hears, CardsHeard, maybe_answer, and_then, all_hear}
+use Rattle.ep_base.specs.Cards.Field.{Outside, OfA, OfB, outside_after, outside_reply, outside_reset, Placed, CardAfter, untouched, by_reply, hears_frame, one_hears, CardsHeard, maybe_answer, and_then, all_hear}
 use Rattle.law_round.specs.Inside.{is_inside}
 use Rattle.ep_base.specs.Cards.Lawful.{IsFormed, ArePlaced, faces}
 use Rattle.law_round.proofs.Fitting.{Chosen, NotOpen, NotOpenB, FitsA, Next}
@@ -87,13 +87,13 @@ plan_stays w b (OfB p s) = refl
 -- ---- one card of the field
 
 -- a card fits where the round is: by what it heard if it is present, out of the block protocol if it isn't; its end of the link is fresh
-pub record CardFits (fsdi : ℕ) (turn : Turn Stage) (p : Placed) : Type 0 where
+pub record CardFits (fsdi : ℕ) (turn : RoundTurn Stage) (p : Placed) : Type 0 where
   pub next : p.present ≡ true → Next turn p.outside
   pub absent : p.present ≡ false → is_inside p.outside ≡ false
   pub fresh : p.party.card ≡ fresh_card
   pub frame : is_inside p.outside ≡ true → p.party.fsd ≡ frame_size fsdi
 
-abbrev pub AllFits : ℕ → Turn Stage → List Placed → Type 0
+abbrev pub AllFits : ℕ → RoundTurn Stage → List Placed → Type 0
 AllFits fsdi turn [] = Unit {0}
 AllFits fsdi turn (p ∷ ps) = CardFits fsdi turn p × AllFits fsdi turn ps
 
@@ -103,7 +103,7 @@ AnyInside [] = ⊥
 AnyInside (p ∷ ps) = (is_inside p.outside ≡ true) ⊎ AnyInside ps
 
 -- what a card did with a frame of a round
-pub record Heeds (fsdi : ℕ) (last : Bool) (turn : Turn Stage) (p : Placed) (t : Told) : Type 0 where
+pub record Heeds (fsdi : ℕ) (last : Bool) (turn : RoundTurn Stage) (p : Placed) (t : CardAfter) : Type 0 where
   pub executed : t.executed ≡ []
   fits : CardFits fsdi turn t.card
   answer : last ≡ true → (t.answer ≡ None) ⊎ (is_inside t.card.outside ≡ true)
@@ -111,7 +111,7 @@ pub record Heeds (fsdi : ℕ) (last : Bool) (turn : Turn Stage) (p : Placed) (t 
   kind : t.card.party.kind ≡ p.party.kind
   image : t.card.party.image ≡ p.party.image
 
-by_does : (fsdi : ℕ) (last : Bool) (turn : Turn Stage) (p : Placed) (o : Outside) (w : Wave) (b : List ℕ) (r : CardHear)
+by_does : (fsdi : ℕ) (last : Bool) (turn : RoundTurn Stage) (p : Placed) (o : Outside) (w : Wave) (b : List ℕ) (r : CardHear)
     → p.present ≡ true → p.party.card ≡ fresh_card → Next turn o → outside_reset o ≡ outside_reset p.outside → Does fsdi last (is_inside o) r
     → Heeds fsdi last turn p (by_reply p o w b r)
 by_does fsdi last turn p o w b Mute here fresh n plan d = record {
@@ -140,7 +140,7 @@ by_does fsdi last turn p o w b (Opens f fsd) here fresh n plan d = record {
 }
 by_does fsdi last turn p o w b Passes here fresh n plan d = absurd d
 
-absent_heeds : (fsdi : ℕ) (last : Bool) (stage : Stage) (turn : Turn Stage) (p : Placed) → p.present ≡ false → CardFits fsdi (Goes stage) p → Heeds fsdi last turn p (untouched p)
+absent_heeds : (fsdi : ℕ) (last : Bool) (stage : Stage) (turn : RoundTurn Stage) (p : Placed) → p.present ≡ false → CardFits fsdi (Goes stage) p → Heeds fsdi last turn p (untouched p)
 absent_heeds fsdi last stage turn p gone h = record {
   executed = refl;
   fits = record { next = λ e. let clash : true ≡ false = sym e ∙ gone in absurd cc; absent = h.absent; fresh = h.fresh; frame = h.frame };
@@ -171,7 +171,7 @@ module _ (fsdi : ℕ) (stage : Stage) where
 
   -- ---- all cards
 
-  pub record AllHeed (turn : Turn Stage) (log : List (ℕ × List ℕ)) (ps : List Placed) (h : CardsHeard) : Type 0 where
+  pub record AllHeed (turn : RoundTurn Stage) (log : List (ℕ × List ℕ)) (ps : List Placed) (h : CardsHeard) : Type 0 where
     pub log_stays : h.log ≡ log
     pub fits : AllFits fsdi turn h.cards
     pub answered : is_last stage ≡ true → (h.answers ≡ []) ⊎ AnyInside h.cards
@@ -180,7 +180,7 @@ module _ (fsdi : ℕ) (stage : Stage) where
   both_quiet : (a : Option Sent) (more : List Sent) → a ≡ None → more ≡ [] → maybe_answer a more ≡ []
   both_quiet a more e f = ap (λ x. maybe_answer x more) e ∙ f
 
-  joins : (p : Placed) (ps : List Placed) (t : Told) (h : CardsHeard)
+  joins : (p : Placed) (ps : List Placed) (t : CardAfter) (h : CardsHeard)
       → (t.answer ≡ None) ⊎ (is_inside t.card.outside ≡ true) → (h.answers ≡ []) ⊎ AnyInside h.cards
       → ((and_then t h).answers ≡ []) ⊎ AnyInside (and_then t h).cards
   joins p ps t h (inl none) (inl nil) = inl (both_quiet t.answer h.answers none nil)
@@ -195,7 +195,7 @@ module _ (fsdi : ℕ) (stage : Stage) where
       ∙ ap (λ x. record { plan = outside_reset p.outside; kind = p.party.kind; image = x } ∷ faces qs) image
       ∙ ap (λ l. record { plan = outside_reset p.outside; kind = p.party.kind; image = p.party.image } ∷ l) rest
 
-  heed_cons : (turn : Turn Stage) (log : List (ℕ × List ℕ)) (p : Placed) (ps : List Placed) (t : Told) (h : CardsHeard) → Heeds fsdi (is_last stage) turn p t → AllHeed turn log ps h
+  heed_cons : (turn : RoundTurn Stage) (log : List (ℕ × List ℕ)) (p : Placed) (ps : List Placed) (t : CardAfter) (h : CardsHeard) → Heeds fsdi (is_last stage) turn p t → AllHeed turn log ps h
       → AllHeed turn log (p ∷ ps) (and_then t h)
   heed_cons turn log p ps t h one all = record {
     log_stays = all.log_stays;
@@ -222,7 +222,7 @@ Quiet room w b log ps = all_hear room w b log ps ≡ record { cards = ps; log = 
 quiet_cons : (room : ℕ) (w : Wave) (b : List ℕ) (log : List (ℕ × List ℕ)) (p : Placed) (ps : List Placed) → one_hears room w b log p ≡ untouched p → Quiet room w b log ps → Quiet room w b log (p ∷ ps)
 quiet_cons room w b log p ps e q = skips room w b log p ps e ∙ ap (λ (x : CardsHeard). and_then (untouched p) x) q
 
-skip_false : (b : Bool) (x y : Told) → (if b && false then x else y) ≡ y
+skip_false : (b : Bool) (x y : CardAfter) → (if b && false then x else y) ≡ y
 skip_false true x y = refl
 skip_false false x y = refl
 

@@ -14,15 +14,15 @@ use Rattle.std.specs.Prelude.{slice_index}
 use Rattle.ep_base.specs.Cards.TypeA.{APlan, AState, Idle, Ready, Active, Protocol, Halted, wupa, hlta, sel, levels, level_part, sak_of, ats_of, atqa, after_select, is_rats, a_select, a_other, a_takes, a_opened, a_card}
 use Rattle.ep_base.specs.Cards.CardAnswer.{Answered, Image, IsImage, card_answer}
 use Rattle.ep_base.specs.Link.CardEnd.{is_halted, card_hears, unlogged}
-use Rattle.ep_base.specs.Cards.Images.{unasked, answered}
+use Rattle.ep_base.specs.Cards.Images.{unasked, last_answer}
 use Rattle.ep_base.specs.Cards.Direct.{image_rules}
 use Rattle.ep_base.specs.Link.Spelling.{Read, Reads, Refuses, read_block}
 use Rattle.ep_base.specs.Air.Fates.{next_fate}
 use Rattle.ep_base.specs.Link.Wire.{Party, Heeded, unmoved, by_commands, image_after, takes_read, takes_opened, takes_frame, comes_down}
-use Rattle.ep_base.specs.Cards.Field.{Outside, OfA, OfB, outside_after, outside_reply, outside_reset, outside_halted, Placed, Told, untouched, by_reply, hears_frame, one_hears, all_hear, left_by, away, is_present, placed_reset, all_reset, Field, field_reset, all_take, field_hears, field_send}
+use Rattle.ep_base.specs.Cards.Field.{Outside, OfA, OfB, outside_after, outside_reply, outside_reset, outside_halted, Placed, CardAfter, untouched, by_reply, hears_frame, one_hears, all_hear, left_by, away, is_present, placed_reset, all_reset, Field, field_reset, all_take, field_hears, field_send}
 use Rattle.law_wire.proofs.Limits.{images_keep}
-use Rattle.law_wire.proofs.Passing.{next_legs}
-use Rattle.ep_base.specs.Cards.Lawful.{IsUid, IsFormed, AtLevelOf, Stands, kind_of, id_of, IsPlaced, ArePlaced, names, AreApart, Lawful, BeginsLawful, StaysLawful}
+use Rattle.law_wire.proofs.Passing.{next_ways}
+use Rattle.ep_base.specs.Cards.Lawful.{IsUid, IsFormed, AtLevelOf, IsReachable, kind_of, id_of, IsPlaced, ArePlaced, names, AreApart, Lawful, BeginsLawful, StaysLawful}
 use Rattle.law_round.proofs.Presenting.{either, when, one_level}
 
 -- ---- where a card stands
@@ -63,7 +63,7 @@ card_stands p (Ready n) w b u h = opened_stands p (Ready n) w (opened w b) u h
 card_stands p Active w b u h = opened_stands p Active w (opened w b) u h
 card_stands p Halted w b u h = opened_stands p Halted w (opened w b) u h
 
-stands_after : (w : Wave) (b : List ℕ) (o : Outside) → IsFormed o → Stands o → Stands (outside_after w b o)
+stands_after : (w : Wave) (b : List ℕ) (o : Outside) → IsFormed o → IsReachable o → IsReachable (outside_after w b o)
 stands_after w b (OfA p s) u h = card_stands p s w b u h
 stands_after w b (OfB p s) u h = tt
 
@@ -84,7 +84,7 @@ id_after w b (OfB p s) = refl
 -- one card outside the block protocol in place of another: the same card, where it can stand
 record Moves (o : Outside) (x : Outside) : Type 0 where
   formed : IsFormed o → IsFormed x
-  stands : IsFormed o → Stands o → Stands x
+  stands : IsFormed o → IsReachable o → IsReachable x
   kind : kind_of x ≡ kind_of o
   id : id_of x ≡ id_of o
 
@@ -110,7 +110,7 @@ pub record Keeps (p : Party) (q : Party) : Type 0 where
 same_party : (p : Party) → Keeps p p
 same_party p = record { kind = refl; image = λ i. i }
 
-answered_keeps : (f : Activated → ℕ) (n : ℕ) (a : Answered × Image) (xs : List (List ℕ)) → IsImage a.1 → IsImage (answered (image_rules f) n a xs).1
+answered_keeps : (f : Activated → ℕ) (n : ℕ) (a : Answered × Image) (xs : List (List ℕ)) → IsImage a.1 → IsImage (last_answer (image_rules f) n a xs).1
 answered_keeps f n a [] i = i
 answered_keeps f n a (x ∷ xs) i = answered_keeps f n (card_answer a.1 x) xs ((images_keep f).stays n a.1 x i)
 
@@ -153,7 +153,7 @@ reply_replaces p w b Passes = record {
 
 one_replaces : (room : ℕ) (w : Wave) (b : List ℕ) (log : List (ℕ × List ℕ)) (p : Placed) → Replaces p (one_hears room w b log p).card
 one_replaces room w b log p =
-    either (λ (t : Told). Replaces p t.card) (p.present && nat_lt (length log) room) (hears_frame p w b) (untouched p)
+    either (λ (t : CardAfter). Replaces p t.card) (p.present && nat_lt (length log) room) (hears_frame p w b) (untouched p)
     (reply_replaces p w b (outside_reply w b p.outside)) (record { outside = stays_there p.outside; party = same_party p.party })
 
 -- ---- all cards
@@ -202,7 +202,7 @@ lawful_reset f h =
 pub lawful_send : (f : Field) (w : Wave) (b : List ℕ) → Lawful f → Lawful (field_send f w b).1
 lawful_send f w b h =
     let s = after_same f.cards (field_hears f w b).cards (away (next_fate f.air.fates)) (taken_same f w (comes_down (next_fate f.air.fates).down w b)) in
-    record { cards = s.0 h.cards; apart = subst (λ ns. AreApart ns) (sym s.1) h.apart; fates = (next_legs f.air.fates h.fates).2 }
+    record { cards = s.0 h.cards; apart = subst (λ ns. AreApart ns) (sym s.1) h.apart; fates = (next_ways f.air.fates h.fates).2 }
 
 pub names_send : (f : Field) (w : Wave) (b : List ℕ) → names (field_send f w b).1.cards ≡ names f.cards
 names_send f w b =

@@ -1,6 +1,6 @@
 -- The one card that a round leaves in the block protocol.
 use Rattle.std.proofs.Common.{◌≡◌, ◌≢◌, ℕ, ◌≤◌, inl, inr, Bool, true, false, List, [], ◌∷◌, ◌++◌, Some, sym, ap, ◌∙◌, subst, refl, arith, le-leb}
-use Rattle.ep_base.specs.Air.Heard.{Activated, RoundEnd, Found, Turn, Ends}
+use Rattle.ep_base.specs.Air.Heard.{Activated, RoundEnd, Found, RoundTurn, Ends}
 use Rattle.ep_base.specs.Cards.TypeA.{Idle, Ready, Active, Protocol, Halted, levels}
 use Rattle.ep_base.specs.Cards.TypeB.{BIdle, BReady, BProtocol}
 use Rattle.ep_base.specs.Air.Medium.{told}
@@ -8,7 +8,7 @@ use Rattle.ep_base.specs.Poll.Polling.{PlaysRound}
 use Rattle.ep_base.specs.Poll.Round.{Stage}
 use Rattle.ep_base.specs.Cards.Field.{Outside, OfA, OfB, Placed, Field, field}
 use Rattle.law_round.specs.Inside.{is_inside, is_out, all_out}
-use Rattle.ep_base.specs.Cards.Lawful.{IsUid, Four, Seven, Ten, IsFormed, Stands, kind_of, id_of, IsPlaced, ArePlaced, names, IsApart, AreApart, Lawful}
+use Rattle.ep_base.specs.Cards.Lawful.{IsUid, Four, Seven, Ten, IsFormed, IsReachable, kind_of, id_of, IsPlaced, ArePlaced, names, IsUnlike, AreApart, Lawful}
 use Rattle.law_round.specs.Linked.{HasLink, OneLink, LinksOne, KeepsCards}
 use Rattle.law_round.proofs.Fitting.{Next}
 use Rattle.law_round.proofs.Hearing.{CardFits, AllFits, AnyInside}
@@ -19,7 +19,7 @@ levels_most _ (Four a b c d first) = omega arith
 levels_most _ (Seven a b c d e f g fourth) = omega arith
 levels_most _ (Ten a b c d e f g i j k) = omega arith
 
-pub outside_out : (o : Outside) → IsFormed o → Stands o → is_inside o ≡ false → is_out o ≡ true
+pub outside_out : (o : Outside) → IsFormed o → IsReachable o → is_inside o ≡ false → is_out o ≡ true
 outside_out (OfA p Idle) f s i = refl
 outside_out (OfA p (Ready n)) f s i = le-leb n 3 (omega (arith, s.1, levels_most p.uid f))
 outside_out (OfA p Active) f s i = refl
@@ -30,7 +30,7 @@ outside_out (OfB p BReady) f s i = refl
 outside_out (OfB p BProtocol) f s i = cc
 
 module _ (fsdi : ℕ) (card : Activated) where
-  abbrev pub turn : Turn Stage
+  abbrev pub turn : RoundTurn Stage
   turn = Ends (Found card)
 
   abbrev IsIt : Outside → Type 0
@@ -73,20 +73,20 @@ module _ (fsdi : ℕ) (card : Activated) where
   out_by o q true i it h d apart = absurd (clashes o q.outside it (found_one q h i) apart)
   out_by o q false i it h d apart = outside_out q.outside d.formed d.stands i
 
-  all_apart_out : (o : Outside) (qs : List Placed) → IsIt o → AllFits fsdi turn qs → ArePlaced qs → IsApart (kind_of o, id_of o) (names qs) → all_out qs ≡ true
+  all_apart_out : (o : Outside) (qs : List Placed) → IsIt o → AllFits fsdi turn qs → ArePlaced qs → IsUnlike (kind_of o, id_of o) (names qs) → all_out qs ≡ true
   all_apart_out o [] it h d apart = refl
   all_apart_out o (q ∷ qs) it h d apart =
       let first : is_out q.outside ≡ true = out_by o q (is_inside q.outside) refl it h.0 d.0 apart.0 in
       let rest : all_out qs ≡ true = all_apart_out o qs it h.1 d.1 apart.1 in
       rw (first, rest) refl
 
-  no_other : (o : Outside) (qs : List Placed) → IsIt o → AllFits fsdi turn qs → AnyInside qs → IsApart (kind_of o, id_of o) (names qs) → ⊥
+  no_other : (o : Outside) (qs : List Placed) → IsIt o → AllFits fsdi turn qs → AnyInside qs → IsUnlike (kind_of o, id_of o) (names qs) → ⊥
   no_other o [] it h any apart = any
   no_other o (q ∷ qs) it h (inl i) apart = clashes o q.outside it (found_one q h.0 i) apart.0
   no_other o (q ∷ qs) it h (inr any) apart = no_other o qs it h.1 any apart.1
 
   first_out : (p : Placed) (ps : List Placed) (inside : Bool) → is_inside p.outside ≡ inside → IsPlaced p → CardFits fsdi turn p → AllFits fsdi turn ps → AnyInside ps
-      → IsApart (kind_of p.outside, id_of p.outside) (names ps) → is_out p.outside ≡ true
+      → IsUnlike (kind_of p.outside, id_of p.outside) (names ps) → is_out p.outside ≡ true
   first_out p ps true i d h hs any apart = absurd (no_other p.outside ps (found_one p h i) hs any apart)
   first_out p ps false i d h hs any apart = outside_out p.outside d.formed d.stands i
 

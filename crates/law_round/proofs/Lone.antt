@@ -1,14 +1,15 @@
 -- A field in which one card is present.
 use Rattle.std.proofs.Common.{◌≡◌, ℕ, zero, suc, nat_lt, le-leb, ◌&&◌, ◌||◌, Bool, true, false, List, [], ◌∷◌, ◌++◌, length, Option, Some, sym, ap, ◌∙◌, subst, refl, append-nil, if◌then◌else◌}
+use Rattle.ep_base.specs.declared.limits.TheConstants.{ROUND_EXCHANGES}
 use Rattle.ep_base.specs.declared.air.Wave.{Wave}
-use Rattle.ep_base.specs.Air.Heard.{Sent, Heard, RoundEnd, Turn, Goes, Ends, CardHear, Mute, Sends, Opens}
+use Rattle.ep_base.specs.Air.Heard.{Sent, Heard, RoundEnd, RoundTurn, Goes, Ends, CardHear, Mute, Sends, Opens}
 use Rattle.ep_base.specs.Air.Heard as replies
 use Rattle.ep_base.specs.Poll.Round.{Stage, Waking, round_asks, round_hears}
 use Rattle.ep_base.specs.Air.Fates.{Passes, Fate, AllPass, next_fate, fates_after}
 use Rattle.ep_base.specs.Air.Medium.{told}
 use Rattle.ep_base.specs.Poll.Polling.{AfterExchange, Plays, PlaysRound}
 use Rattle.ep_base.specs.Link.Wire.{comes_down, comes_back}
-use Rattle.ep_base.specs.Cards.Field.{Outside, OfA, OfB, outside_after, outside_reply, Placed, Told, untouched, by_reply, hears_frame, one_hears, CardsHeard, maybe_answer, and_then, all_hear, joined, left_by, leaves, away, Field, field_reset, all_take, field_hears, field_send, field}
+use Rattle.ep_base.specs.Cards.Field.{Outside, OfA, OfB, outside_after, outside_reply, Placed, CardAfter, untouched, by_reply, hears_frame, one_hears, CardsHeard, maybe_answer, and_then, all_hear, joined, left_by, leaves, away, Field, field_reset, all_take, field_hears, field_send, field}
 use Rattle.law_round.specs.Inside.{is_inside}
 use Rattle.ep_base.specs.Cards.Lawful.{IsFormed}
 use Rattle.law_round.specs.Alone.{AreAbsent, IsAlone, AloneIn}
@@ -30,7 +31,7 @@ abbrev pub lone : Wave → List ℕ → Outside → Heard
 lone wave bytes o = joined (sent (outside_reply wave bytes o))
 
 -- what the card tells
-record Tells (p : Placed) (o : Outside) (r : CardHear) (t : Told) : Type 0 where
+record Tells (p : Placed) (o : Outside) (r : CardHear) (t : CardAfter) : Type 0 where
   executed : t.executed ≡ []
   answer : maybe_answer t.answer [] ≡ sent r
   outside : t.card.outside ≡ o
@@ -76,7 +77,7 @@ module _ (room : ℕ) (w : Wave) (b : List ℕ) (log : List (ℕ × List ℕ)) (
       let heard : After p.outside (p ∷ ps) (and_then told_one (all_hear room w b (log ++ told_one.executed) ps)) =
       subst (λ (h : CardsHeard). After p.outside (p ∷ ps) (and_then told_one h)) (sym rest) result in
       let mine : After p.outside (p ∷ ps) (all_hear room w b log (p ∷ ps)) =
-      subst (λ (x : Told). After p.outside (p ∷ ps) (and_then x (all_hear room w b (log ++ x.executed) ps))) (sym (hears_it p here)) heard in
+      subst (λ (x : CardAfter). After p.outside (p ∷ ps) (and_then x (all_hear room w b (log ++ x.executed) ps))) (sym (hears_it p here)) heard in
       subst (λ x. After x (p ∷ ps) (all_hear room w b log (p ∷ ps))) is mine
 
   later_hears : (o : Outside) (p : Placed) (ps : List Placed) → p.present ≡ false → After o ps (all_hear room w b log ps) → After o (p ∷ ps) (all_hear room w b log (p ∷ ps))
@@ -93,7 +94,7 @@ module _ (room : ℕ) (w : Wave) (b : List ℕ) (log : List (ℕ × List ℕ)) (
 
 -- ---- a field in which a card is alone, while the round goes on
 
-record Lone (turn : Turn Stage) (o : Outside) (f : Field) : Type 0 where
+record Lone (turn : RoundTurn Stage) (o : Outside) (f : Field) : Type 0 where
   card : LoneCard o f.cards
   fates : AllPass f.air.fates
   free : nat_lt (length f.log) f.room ≡ true
@@ -154,20 +155,20 @@ module _ (fsdi : ℕ) (stage : Stage) where
 
 -- ---- a round with a card alone, by its own rules only
 
-unfoldable pub solo : ℕ → ℕ → Outside → Turn Stage → Turn Stage
+unfoldable pub solo : ℕ → ℕ → Outside → RoundTurn Stage → RoundTurn Stage
 solo zero fsdi o turn = turn
 solo (suc n) fsdi o (Ends e) = Ends e
 solo (suc n) fsdi o (Goes stage) = let a = round_asks fsdi stage in solo n fsdi (outside_after a.wave a.bytes o) (round_hears stage (lone a.wave a.bytes o))
 
 -- the round ends as that one
-pub record Follows (n : ℕ) (fsdi : ℕ) (o : Outside) (turn : Turn Stage) (ending : Option RoundEnd) : Type 0 where
+pub record Follows (n : ℕ) (fsdi : ℕ) (o : Outside) (turn : RoundTurn Stage) (ending : Option RoundEnd) : Type 0 where
   pub end : RoundEnd
   pub is : ending ≡ Some end
   pub solo_ends : solo n fsdi o turn ≡ Ends end
 
 module _ (fsdi : ℕ) where
   rest_of : (n : ℕ) (stage : Stage) (f : Field) (o : Outside) (h : Option Heard) (u : Field) (ending : Option RoundEnd) (t : Field)
-      → ((turn : Turn Stage) (g : Field) (x : Outside) → Awake turn → Lone turn x g → Plays (told field) fsdi n turn g ending t → Follows n fsdi x turn ending)
+      → ((turn : RoundTurn Stage) (g : Field) (x : Outside) → Awake turn → Lone turn x g → Plays (told field) fsdi n turn g ending t → Follows n fsdi x turn ending)
       → Lone (Goes stage) o f → field_send f (wave fsdi stage) (bytes fsdi stage) ≡ (h, u)
       → AfterExchange (told field) fsdi (λ x. Plays (told field) fsdi n (round_hears stage x)) h u ending t → Follows (suc n) fsdi o (Goes stage) ending
   unfolding solo
@@ -182,7 +183,7 @@ module _ (fsdi : ℕ) where
       let e = more (round_hears stage (heard fsdi stage o)) g (outside_after (wave fsdi stage) (bytes fsdi stage) o) (stays_awake stage (heard fsdi stage o)) x.1 going in
       record { end = e.end; is = e.is; solo_ends = e.solo_ends }
 
-  plays_solo : (n : ℕ) (turn : Turn Stage) (f : Field) (o : Outside) (ending : Option RoundEnd) (t : Field) → Awake turn → Lone turn o f → Plays (told field) fsdi n turn f ending t → Follows n fsdi o turn ending
+  plays_solo : (n : ℕ) (turn : RoundTurn Stage) (f : Field) (o : Outside) (ending : Option RoundEnd) (t : Field) → Awake turn → Lone turn o f → Plays (told field) fsdi n turn f ending t → Follows n fsdi o turn ending
   unfolding Plays solo
   plays_solo zero (Goes stage) f o ending t awake l x = absurd x
   plays_solo zero (Ends e) f o ending t awake l x = record { end = e; is = x.0; solo_ends = refl }
@@ -194,7 +195,7 @@ module _ (fsdi : ℕ) where
   alone_list : (o : Outside) (ps : List Placed) → IsAlone o ps → LoneCard o ps
   alone_list o ps a = record { before = a.0; one = a.1; after = a.2; are = a.3; present = a.4; outside = a.5; absent_before = a.6; absent_after = a.7 }
 
-  pub round_solo : (s t : Field) (ending : Option RoundEnd) (o : Outside) → IsFormed o → Next (Goes Waking) o → AloneIn o s → PlaysRound (told field) fsdi s ending t → Follows 11 fsdi o (Goes Waking) ending
+  pub round_solo : (s t : Field) (ending : Option RoundEnd) (o : Outside) → IsFormed o → Next (Goes Waking) o → AloneIn o s → PlaysRound (told field) fsdi s ending t → Follows ROUND_EXCHANGES fsdi o (Goes Waking) ending
   unfolding Plays
   round_solo s t ending o formed fits a x =
       let l : Lone (Goes Waking) o (field_reset s) = record {

@@ -1,5 +1,6 @@
 -- A field over which every frame passes: it stays so in rounds and in links, and no link is spent.
 use Rattle.std.proofs.Common.{◌≡◌, ℕ, zero, suc, Bool, true, false, List, Option, Some, None, sym, ap, ◌∙◌, subst}
+use Rattle.ep_base.specs.declared.limits.TheConstants.{ROUND_EXCHANGES}
 use Rattle.ep_base.specs.declared.air.Wave.{Wave}
 use Rattle.ep_base.specs.Air.Fates.{Way, AllPass, gone_by, next_fate}
 use Rattle.ep_base.specs.Cards.Apdu.{is_command}
@@ -7,7 +8,7 @@ use Rattle.ep_base.specs.Link.Block.{Block}
 use Rattle.ep_base.specs.Link.Carry.{SendsBlock, AtRest, OfLink, Follows}
 use Rattle.ep_base.specs.Cards.Field.{Field, field_send, field}
 use Rattle.ep_base.specs.Air.Frame.{sealed}
-use Rattle.ep_base.specs.Air.Heard.{Ask, Heard, RoundEnd, Turn, Goes, Ends, wave_of_kind}
+use Rattle.ep_base.specs.Air.Heard.{Ask, Heard, RoundEnd, RoundTurn, Goes, Ends, wave_of_kind}
 use Rattle.ep_base.specs.Link.LinkFrames.{LinkSetting}
 use Rattle.ep_base.specs.Air.Medium.{told, AfterReset, ExchangesBy}
 use Rattle.ep_base.specs.Poll.Polling.{AfterExchange, Plays, PlaysRound}
@@ -60,7 +61,7 @@ module _ (fsdi : ℕ) where
   after_exchange u t (Some h) ending Then more all x = more h x
   after_exchange u t None ending Then more all x = subst (λ (f : Field). Passing f) (sym x.1) all
 
-  plays_passing : (n : ℕ) (turn : Turn Stage) (s t : Field) (ending : Option RoundEnd) → Passing s → Plays (told field) fsdi n turn s ending t → Passing t
+  plays_passing : (n : ℕ) (turn : RoundTurn Stage) (s t : Field) (ending : Option RoundEnd) → Passing s → Plays (told field) fsdi n turn s ending t → Passing t
   unfolding Plays
   plays_passing zero (Goes stage) s t ending all x = absurd x
   plays_passing zero (Ends e) s t ending all x = subst (λ (f : Field). Passing f) (sym x.1) all
@@ -72,7 +73,7 @@ module _ (fsdi : ℕ) where
 
   -- a round leaves it so
   pub round_passing : (s t : Field) (ending : Option RoundEnd) → Passing s → PlaysRound (told field) fsdi s ending t → Passing t
-  round_passing s t ending all x = plays_passing 11 _ s t ending all x
+  round_passing s t ending all x = plays_passing ROUND_EXCHANGES _ s t ending all x
 
 -- ---- links
 
@@ -88,11 +89,11 @@ clear_block set b s t heard clear x =
     subst (λ (y : Option Heard × Field). IsClear y.1) e (clear_send s (wave_of_kind set.kind) (sealed (wave_of_kind set.kind) (spelled b)) clear)
 
 -- and so does a command, also where the cards aren't gone
-pub command_clear : (set : LinkSetting) (n : ℕ) (s t : Field) (r : Reader) (hs : List Heard) (turn : links.Turn) → is_open set.kind n s ≡ true → IsClear s → Follows (told field) set hs r s turn t → IsClear t
+pub command_clear : (set : LinkSetting) (n : ℕ) (s t : Field) (r : Reader) (hs : List Heard) (turn : links.ReaderTurn) → is_open set.kind n s ≡ true → IsClear s → Follows (told field) set hs r s turn t → IsClear t
 command_clear set n s t r hs turn good clear x = along set n IsClear (λ u v b heard g sends p. clear_block set b u v heard p sends) hs r s turn t good clear x
 
 -- a command over an open link to a card that is there doesn't spend the link
-pub unspent_in_field : (set : LinkSetting) (n : ℕ) (s t : Field) (r : Reader) (command : List ℕ) (hs : List Heard) (turn : links.Turn)
+pub unspent_in_field : (set : LinkSetting) (n : ℕ) (s t : Field) (r : Reader) (command : List ℕ) (hs : List Heard) (turn : links.ReaderTurn)
     → is_open set.kind n s ≡ true → OfLink set (shown n s) → AtRest r (shown n s).party.card → is_command command ≡ true → IsClear s
     → Follows (told field) set hs (begin set.frames.card command r) s turn t → IsUnspent turn
 unspent_in_field set n s t r command hs turn good of rest legal clear x =

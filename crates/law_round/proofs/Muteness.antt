@@ -17,7 +17,7 @@ use Rattle.ep_base.specs.Air.Fates.{Way, IsWay}
 use Rattle.ep_base.specs.Link.Block.{Block, I, RAck, RNak, Deselect, Wtx}
 use Rattle.ep_base.specs.Link.Spelling.{spelled}
 use Rattle.ep_base.specs.Link.Wire.{comes_down}
-use Rattle.ep_base.specs.Cards.Field.{Outside, OfA, OfB, outside_after, outside_reply, Placed, Told, untouched, by_reply, hears_frame, one_hears, CardsHeard, and_then, all_hear}
+use Rattle.ep_base.specs.Cards.Field.{Outside, OfA, OfB, outside_after, outside_reply, Placed, CardAfter, untouched, by_reply, hears_frame, one_hears, CardsHeard, and_then, all_hear}
 use Rattle.rf_frame.proofs.Opening.{ends_sealed}
 use Rattle.law_wire.proofs.Reading.{opened_spelled}
 use Rattle.law_round.specs.Inside.{a_out, b_out, is_out, all_out}
@@ -131,7 +131,7 @@ pub still : (wave : Wave) (bytes : List ℕ) (p : Placed) → outside_after wave
     → hears_frame p wave bytes ≡ untouched p
 still wave bytes p e m = ap (λ r. by_reply p (outside_after wave bytes p.outside) wave bytes r) m ∙ ap (λ o. by_reply p o wave bytes Mute) e
 
-pub either_way : (b : Bool) (x y : Told) → x ≡ y → (if b then x else y) ≡ y
+pub either_way : (b : Bool) (x y : CardAfter) → x ≡ y → (if b then x else y) ≡ y
 either_way true x y e = e
 either_way false x y e = refl
 
@@ -145,7 +145,7 @@ block_keeps kind bytes room log p h o =
 pub skips : (room : ℕ) (wave : Wave) (bytes : List ℕ) (log : List (ℕ × List ℕ)) (p : Placed) (ps : List Placed) → one_hears room wave bytes log p ≡ untouched p
     → all_hear room wave bytes log (p ∷ ps) ≡ and_then (untouched p) (all_hear room wave bytes log ps)
 skips room wave bytes log p ps e =
-    ap (λ (t : Told). and_then t (all_hear room wave bytes (log ++ t.executed) ps)) e
+    ap (λ (t : CardAfter). and_then t (all_hear room wave bytes (log ++ t.executed) ps)) e
     ∙ ap (λ l. and_then (untouched p) (all_hear room wave bytes l ps)) (append-nil log)
 
 pub all_keep : (kind : CardKind) (bytes : List ℕ) (room : ℕ) (log : List (ℕ × List ℕ)) (ps : List Placed) → IsBlock (opened (wave_of_kind kind) bytes) → all_out ps ≡ true

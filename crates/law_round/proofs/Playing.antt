@@ -1,6 +1,7 @@
 -- Over every field there is a round.
-use Rattle.std.proofs.Common.{◌≡◌, ℕ, zero, suc, ◌≤◌, true, false, Option, Some, sym, subst, refl, arith}
-use Rattle.ep_base.specs.Air.Heard.{Ask, Heard, RoundEnd, Turn, Goes, Ends}
+use Rattle.std.proofs.Common.{◌≡◌, ℕ, zero, suc, ◌-◌, ◌≤◌, true, false, Option, Some, sym, subst, refl, arith}
+use Rattle.ep_base.specs.declared.limits.TheConstants.{ROUND_EXCHANGES}
+use Rattle.ep_base.specs.Air.Heard.{Ask, Heard, RoundEnd, RoundTurn, Goes, Ends}
 use Rattle.ep_base.specs.Poll.Round.{Stage, Waking, round_asks, round_hears}
 use Rattle.ep_base.specs.Air.Fates.{next_fate}
 use Rattle.ep_base.specs.Air.Medium.{told, Exchanges, ExchangesBy}
@@ -12,7 +13,7 @@ use Rattle.law_round.proofs.Rounds.{Awake, stays_awake, no_reset}
 use Rattle.law_round.proofs.Counting.{left, Leveled, leaves, one_left}
 
 module _ (fsdi : ℕ) where
-  abbrev SomeRound : ℕ → Turn Stage → Field → Type 0
+  abbrev SomeRound : ℕ → RoundTurn Stage → Field → Type 0
   SomeRound n turn s = (ending : Option RoundEnd) × (t : Field) × Plays (told field) fsdi n turn s ending t
 
   abbrev heard_in : Stage → Field → Heard
@@ -24,7 +25,7 @@ module _ (fsdi : ℕ) where
   exchanged : (ask : Ask) (f : Field) → ask.reset ≡ false → Exchanges (told field) f ask (field_send f ask.wave ask.bytes).0 (field_send f ask.wave ask.bytes).1
   exchanged ask f e = subst (λ r. ExchangesBy (told field) r f ask (field_send f ask.wave ask.bytes).0 (field_send f ask.wave ask.bytes).1) (sym e) refl
 
-  plays_on : (n : ℕ) (turn : Turn Stage) (f : Field) → Awake turn → Leveled turn → left turn ≤ n → SomeRound n turn f
+  plays_on : (n : ℕ) (turn : RoundTurn Stage) (f : Field) → Awake turn → Leveled turn → left turn ≤ n → SomeRound n turn f
   unfolding Plays
   plays_on zero (Ends e) f a h l = (Some e, f, (refl, refl))
   plays_on zero (Goes stage) f a h l = absurd (omega (arith, l, one_left stage h))
@@ -36,13 +37,13 @@ module _ (fsdi : ℕ) where
       let rest = plays_on n (round_hears stage heard) (after_in stage f) (stays_awake stage heard) x.0 fewer in
       (rest.0, rest.1, (Some heard, after_in stage f, exchanged (round_asks fsdi stage) f (no_reset fsdi stage a), rest.2))
 
-  first : (f : Field) → SomeRound 11 (Goes Waking) f
+  first : (f : Field) → SomeRound ROUND_EXCHANGES (Goes Waking) f
   unfolding Plays
   first f =
       let g = field_reset f in
       let heard = heard_in Waking g in
       let x = leaves Waking heard tt in
-      let rest = plays_on 10 (round_hears Waking heard) (after_in Waking g) (stays_awake Waking heard) x.0 x.1 in
+      let rest = plays_on (ROUND_EXCHANGES - 1) (round_hears Waking heard) (after_in Waking g) (stays_awake Waking heard) x.0 x.1 in
       (rest.0, rest.1, (Some heard, after_in Waking g, (true, g, refl, refl), rest.2))
 
 pub always_plays_law : AlwaysPlays

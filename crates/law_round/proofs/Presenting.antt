@@ -11,7 +11,7 @@ use Rattle.ep_base.specs.declared.activation.AtsFault.{AtsFault}
 use Rattle.ep_base.specs.declared.activation.Atqb.{Atqb}
 use Rattle.ep_base.specs.declared.activation.AtqbFault.{AtqbFault}
 use Rattle.ep_base.specs.Air.Frame.{sealed, opened}
-use Rattle.ep_base.specs.Air.Heard.{Activated, Empty, Collision, Unsupported, Broken, Found, Fails, CardHear, Mute, Sends, Opens, Heard, Silence, Noise, Overlap, Frame, Turn, Goes, Ends, framed, same_wave, says_opened, on_answer, awaited, is_silent}
+use Rattle.ep_base.specs.Air.Heard.{Activated, Empty, Collision, Unsupported, Broken, Found, Fails, CardHear, Mute, Sends, Opens, Heard, Silence, Noise, Overlap, Frame, RoundTurn, Goes, Ends, framed, same_wave, says_opened, on_answer, awaited, is_silent}
 use Rattle.ep_base.specs.Cards.Activation.{ats, atqb, bit}
 use Rattle.ep_base.specs.Air.FrameSize.{frame_size}
 use Rattle.ep_base.specs.Cards.TypeA.{AStage, Woken, Level, Select, Complete, sel, is_level, continues, a_says, a_hears, after_sak, after_ats, APlan, AState, Idle, Ready, Active, Protocol, Halted, levels, level_part, sak_of, ats_of, after_select, a_takes, a_opened, a_card}
@@ -56,14 +56,14 @@ one_level _ (Four a b c d first) = omega arith
 one_level _ (Seven a b c d e f g fourth) = omega arith
 one_level _ (Ten a b c d e f g i j k) = omega arith
 
-pub by_wave : {S : Type 0} (P : Turn S → Type 0) (next : List ℕ → Turn S) (same : Bool) (o : Option (List ℕ))
+pub by_wave : {S : Type 0} (P : RoundTurn S → Type 0) (next : List ℕ → RoundTurn S) (same : Bool) (o : Option (List ℕ))
     → P (Ends Broken) → ((m : List ℕ) → P (next m)) → P (on_answer next (if same then says_opened o else Fails Broken))
 by_wave P next true (Some m) b f = f m
 by_wave P next true None b f = b
 by_wave P next false o b f = b
 
 -- what holds after each way to hear an awaited answer
-pub answered : {S : Type 0} (P : Turn S → Type 0) (next : List ℕ → Turn S) (wave : Wave) (heard : Heard)
+pub answered : {S : Type 0} (P : RoundTurn S → Type 0) (next : List ℕ → RoundTurn S) (wave : Wave) (heard : Heard)
     → P (Ends Broken) → P (Ends Collision) → ((m : List ℕ) → P (next m)) → P (on_answer next (awaited wave heard))
 answered P next wave Silence b c f = b
 answered P next wave Noise b c f = b
@@ -86,7 +86,7 @@ takes p (Ready level) wave bytes m o e = ap (λ x. a_opened p (Ready level) wave
 takes p Active wave bytes m o e = ap (λ x. a_opened p Active wave x) e
 
 -- an Idle or a Halted card fits whatever follows
-quiet_idle : (t : Turn AStage) (uid : List ℕ) → NextA (in_a t) uid Idle
+quiet_idle : (t : RoundTurn AStage) (uid : List ℕ) → NextA (in_a t) uid Idle
 quiet_idle (Goes Woken) uid = tt
 quiet_idle (Goes (Level n before)) uid = tt
 quiet_idle (Goes (Select n before part)) uid = tt
@@ -97,7 +97,7 @@ quiet_idle (Ends Unsupported) uid = tt
 quiet_idle (Ends Broken) uid = tt
 quiet_idle (Ends (Found found)) uid = λ e. absurd cc
 
-quiet_halted : (t : Turn AStage) (uid : List ℕ) → NextA (in_a t) uid Halted
+quiet_halted : (t : RoundTurn AStage) (uid : List ℕ) → NextA (in_a t) uid Halted
 quiet_halted (Goes Woken) uid = tt
 quiet_halted (Goes (Level n before)) uid = tt
 quiet_halted (Goes (Select n before part)) uid = tt
@@ -208,7 +208,7 @@ after_part : (p : APlan) (u : IsUid p.uid) (n : ℕ) (before part : List ℕ) (s
     → NextA (in_a (after_sak n before part sak)) p.uid (after_select p n)
 after_part p u n before part sak b e =
     let s = after_select p n in
-    let P : Turn AStage → Type 0 = λ t. NextA (in_a t) p.uid s in
+    let P : RoundTurn AStage → Type 0 = λ t. NextA (in_a t) p.uid s in
     either P (bit sak 4 == 1) _ _
     (when P (continues n part) _ _ (λ c. goes_more p u n before part b e c) (λ c. tt))
     (when P (continues n part) _ _ (λ c. tt) (λ c. either P (bit sak 32 == 1) _ _ (goes_last p u n before part b e c) tt))

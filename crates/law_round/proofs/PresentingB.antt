@@ -7,7 +7,7 @@ use Rattle.std.proofs.lemmas.Bool.{and_parts}
 use Rattle.ep_base.specs.declared.air.Wave.{Wave}
 use Rattle.ep_base.specs.declared.air.Wave.TheVariants.{AShort, ABare, A, B}
 use Rattle.ep_base.specs.Air.Frame.{sealed, opened}
-use Rattle.ep_base.specs.Air.Heard.{RoundEnd, Empty, Collision, Unsupported, Broken, Found, CardHear, Mute, Sends, Opens, same_wave, Heard, Turn, Goes, Ends, framed}
+use Rattle.ep_base.specs.Air.Heard.{RoundEnd, Empty, Collision, Unsupported, Broken, Found, CardHear, Mute, Sends, Opens, same_wave, Heard, RoundTurn, Goes, Ends, framed}
 use Rattle.ep_base.specs.Air.FrameSize.{frame_size}
 use Rattle.ep_base.specs.Cards.TypeA.{Woken, Level, Select, Complete}
 use Rattle.ep_base.specs.Cards.TypeB.{BStage, attrib_of, b_says, BPlan, BState, BIdle, BReady, BProtocol, atqb_of, is_attrib, b_takes, b_opened, b_card}
@@ -25,7 +25,7 @@ quiet_end (Found found) pupi BIdle o = λ e. absurd cc
 quiet_end (Found found) pupi BReady o = λ e. absurd cc
 quiet_end (Found found) pupi BProtocol o = absurd o
 
-pub quiet : (t : Turn Stage) (pupi : List ℕ) (s : BState) → NotOpenB s → NextB t pupi s
+pub quiet : (t : RoundTurn Stage) (pupi : List ℕ) (s : BState) → NotOpenB s → NextB t pupi s
 quiet (Goes stage) pupi s o = o
 quiet (Ends e) pupi s o = quiet_end e pupi s o
 
@@ -46,7 +46,7 @@ stays p BIdle wave bytes h o = other_opened p BIdle wave (opened wave bytes) h
 stays p BReady wave bytes h o = other_opened p BReady wave (opened wave bytes) h
 stays p BProtocol wave bytes h o = absurd o
 
-elsewhere : (p : BPlan) (s : BState) (t : Turn Stage) (wave : Wave) (bytes : List ℕ) → same_wave wave B ≡ false → NotOpenB s → NextB t p.pupi (b_card p s wave bytes).0
+elsewhere : (p : BPlan) (s : BState) (t : RoundTurn Stage) (wave : Wave) (bytes : List ℕ) → same_wave wave B ≡ false → NotOpenB s → NextB t p.pupi (b_card p s wave bytes).0
 elsewhere p s t wave bytes h o = subst (λ x. NextB t p.pupi x) (sym (stays p s wave bytes h o)) (quiet t p.pupi s o)
 
 pub woken : (p : BPlan) (s : BState) → NotOpenB s → (b_card p s B (sealed B (0x05 ∷ 0 ∷ 0x08 ∷ []))).0 ≡ BReady
@@ -68,7 +68,7 @@ its_own p pupi fsdi l h =
     let long : length pupi ≡ length p.pupi = omega (arith, length-append pupi (0 ∷ fsdi ∷ 1 ∷ 0 ∷ []), length-append p.pupi (0 ∷ slice_index m 6 ∷ 1 ∷ 0 ∷ []), ap length same) in
     fronts pupi p.pupi (0 ∷ fsdi ∷ 1 ∷ 0 ∷ []) (0 ∷ slice_index m 6 ∷ 1 ∷ 0 ∷ []) long (ap (λ z. drop 1 z) same)
 
-attrib_idle : (p : BPlan) (m : List ℕ) (t : Turn Stage) → NextB t p.pupi (b_takes p BIdle B m).0
+attrib_idle : (p : BPlan) (m : List ℕ) (t : RoundTurn Stage) → NextB t p.pupi (b_takes p BIdle B m).0
 unfolding b_takes
 attrib_idle p m t = either (λ (x : BState × CardHear). NextB t p.pupi x.0) (bytes_eq m (0x05 ∷ 0 ∷ 0x08 ∷ [])) (BReady, Sends (framed B (atqb_of p))) (BIdle, Mute) (quiet t p.pupi BReady tt) (quiet t p.pupi BIdle tt)
 

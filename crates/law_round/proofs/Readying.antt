@@ -1,5 +1,6 @@
 -- After a round that ended with a card, its link is ready for a command.
 use Rattle.std.proofs.Common.{◌≡◌, ℕ, ◌+◌, ◌≤◌, true, false, List, [], ◌∷◌, ◌++◌, length, Some, sym, ap, ◌∙◌, subst, refl}
+use Rattle.ep_base.specs.declared.limits.TheConstants.{FRAME}
 use Rattle.ep_base.specs.declared.air.CardKind.{CardKind}
 use Rattle.ep_base.specs.Air.Heard.{Activated, Found}
 use Rattle.ep_base.specs.Link.CardEnd.{Card, is_halted, fresh_card}
@@ -12,14 +13,15 @@ use Rattle.ep_base.specs.Cards.Field.{Placed, field}
 use Rattle.law_round.specs.Inside.{is_out, all_out}
 use Rattle.ep_base.specs.Cards.Lawful.{IsPlaced, ArePlaced}
 use Rattle.law_round.specs.Linked.{HasLink}
-use Rattle.law_round.specs.Acting.{is_link, linked_at, are_passages, party_at, IsReady, OpensWire}
+use Rattle.law_round.specs.Acting.{is_link, linked_at, are_fates, party_at, IsReady, OpensWire}
 use Rattle.std.proofs.lemmas.Bool.{and_parts}
-use Rattle.law_round.proofs.Acting.{Place, Link, from_link, passages_truth}
-use Rattle.law_round.proofs.Sizing.{frame_sized, round_sized}
+use Rattle.law_round.proofs.Acting.{Place, Link, from_link, fates_truth}
+use Rattle.ep_base.proofs.Sizes.{frame_sized}
+use Rattle.law_round.proofs.Sizing.{round_sized}
 use Rattle.law_round.proofs.Linking.{at_end, one_link, keeps_cards_law}
 
-at_rest : (c : Card) → c ≡ fresh_card → AtRest dialogue.opened c
-at_rest c e = subst (λ x. AtRest dialogue.opened x) (sym e) (record { differ = refl; closed = refl; fresh = refl; none_taken = refl; none_left = refl; none_logged = refl; unhalted = refl })
+at_rest : (c : Card) → c ≡ fresh_card → AtRest dialogue.opened_reader c
+at_rest c e = subst (λ x. AtRest dialogue.opened_reader x) (sym e) (record { differ = refl; closed = refl; fresh = refl; none_taken = refl; none_left = refl; none_logged = refl; unhalted = refl })
 
 linked_there : (kind : CardKind) (before : List Placed) (one : Placed) (after : List Placed) → is_link kind false one ≡ true → all_out before ≡ true → all_out after ≡ true
     → linked_at kind false (length before) (before ++ one ∷ after) ≡ true
@@ -55,17 +57,17 @@ opens_wire_law fsdi s t card set l x is room =
     let is_link_true : is_link set.kind false y.1 ≡ true = from_link set.kind false y.1 (fresh_link fsdi card set.kind y.1 is.kind y.4) in
     let linked : linked_at set.kind t.air.gone n t.cards ≡ true =
     ap (λ gone. linked_at set.kind gone n t.cards) y.7 ∙ ap (λ ps. linked_at set.kind false n ps) y.3 ∙ linked_there set.kind y.0 y.1 y.2 is_link_true y.5 y.6 in
-    let passages : are_passages t.air.fates ≡ true = passages_truth t.air.fates e.lawful.fates in
+    let exchange_fates : are_fates t.air.fates ≡ true = fates_truth t.air.fates e.lawful.fates in
     let placed : IsPlaced y.1 = placed_there y.0 y.1 y.2 (subst (λ ps. ArePlaced ps) y.3 e.lawful.cards) in
     let sized = frame_sized fsdi in
     let ready : IsReady set n t = record {
-      is = rw (linked, passages) refl;
+      is = rw (linked, exchange_fates) refl;
       wire = record {
         kind = ap (λ (p : Party). p.kind) party ∙ y.4.link_kind ∙ sym is.kind;
         frame = ap (λ (p : Party). p.fsd) party ∙ y.4.frame ∙ sym is.reader;
         card_least = subst (λ k. 16 ≤ k) (sym is.size) (round_sized (told field) fsdi s t card x).0;
         reader_least = subst (λ k. 16 ≤ k) (sym is.reader) sized.0;
-        reader_most = subst (λ k. k ≤ 256) (sym is.reader) sized.1;
+        reader_most = subst (λ k. k ≤ FRAME) (sym is.reader) sized.1;
         image = subst (λ (p : Party). IsImage p.image) (sym party) placed.image;
         fates = e.lawful.fates;
         room = subst (λ k. length t.log + 2 ≤ k) (sym kept.2) (subst (λ (log : List (ℕ × List ℕ)). length log + 2 ≤ s.room) (sym kept.1) room);

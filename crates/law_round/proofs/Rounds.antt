@@ -7,7 +7,7 @@ use Rattle.ep_base.specs.declared.activation.Atqb.{Atqb}
 use Rattle.ep_base.specs.declared.activation.AtqbFault.{AtqbFault}
 use Rattle.ep_base.specs.Cards.Activation.{atqb, bit}
 use Rattle.ep_base.specs.Air.Frame.{is_good}
-use Rattle.ep_base.specs.Air.Heard.{Ask, Heard, Silence, RoundEnd, Empty, Collision, Unsupported, Broken, Found, Turn, Goes, Ends, is_silent}
+use Rattle.ep_base.specs.Air.Heard.{Ask, Heard, Silence, RoundEnd, Empty, Collision, Unsupported, Broken, Found, RoundTurn, Goes, Ends, is_silent}
 use Rattle.ep_base.specs.Cards.TypeA.{AStage, Woken, Level, Select, Complete, sel, hlta, is_level, continues, a_asks, a_says, a_hears, after_sak}
 use Rattle.ep_base.specs.Cards.TypeB.{BStage, wupb, attrib_of, after_atqb, b_found, b_hears}
 use Rattle.ep_base.specs.Poll.Round.{Stage, Waking, Halting, WakingB, InA, InB, round_asks, round_hears, in_a, in_b}
@@ -17,7 +17,7 @@ use Rattle.ep_base.specs.Poll.Polling.{AfterExchange, Plays, PlaysRound}
 use Rattle.ep_base.specs.Link.Wire.{comes_down, comes_back}
 use Rattle.ep_base.specs.Cards.Field.{Outside, OfA, OfB, outside_reset, Placed, CardsHeard, joined, all_hear, left_by, leaves, away, is_present, placed_reset, all_reset, Field, field_reset, all_take, field_hears, field_send, field}
 use Rattle.rf_frame.proofs.Opening.{ends_sealed}
-use Rattle.law_wire.proofs.Passing.{next_legs}
+use Rattle.law_wire.proofs.Passing.{next_ways}
 use Rattle.law_round.specs.Inside.{is_inside}
 use Rattle.ep_base.specs.Cards.Lawful.{ArePlaced, Lawful, faces, reset_faces}
 use Rattle.law_round.proofs.Arriving.{Arrival, Lost, Whole, Damaged, arrives}
@@ -30,7 +30,7 @@ use Rattle.law_round.proofs.Hearing.{AllFits, AnyInside, all_heed, full_hear, Al
 -- ---- turns that end with a card
 
 -- the turn isn't an end with a card
-abbrev pub NoCard : Turn Stage → Type 0
+abbrev pub NoCard : RoundTurn Stage → Type 0
 NoCard (Goes stage) = Unit {0}
 NoCard (Ends Empty) = Unit {0}
 NoCard (Ends Collision) = Unit {0}
@@ -39,7 +39,7 @@ NoCard (Ends Broken) = Unit {0}
 NoCard (Ends (Found card)) = ⊥
 
 -- where it is one, some card is in the block protocol
-abbrev pub HasOpen : Turn Stage → List Placed → Type 0
+abbrev pub HasOpen : RoundTurn Stage → List Placed → Type 0
 HasOpen (Goes stage) ps = Unit {0}
 HasOpen (Ends Empty) ps = Unit {0}
 HasOpen (Ends Collision) ps = Unit {0}
@@ -47,7 +47,7 @@ HasOpen (Ends Unsupported) ps = Unit {0}
 HasOpen (Ends Broken) ps = Unit {0}
 HasOpen (Ends (Found card)) ps = AnyInside ps
 
-no_card_open : (t : Turn Stage) (ps : List Placed) → NoCard t → HasOpen t ps
+no_card_open : (t : RoundTurn Stage) (ps : List Placed) → NoCard t → HasOpen t ps
 no_card_open (Goes stage) ps h = tt
 no_card_open (Ends Empty) ps h = tt
 no_card_open (Ends Collision) ps h = tt
@@ -55,7 +55,7 @@ no_card_open (Ends Unsupported) ps h = tt
 no_card_open (Ends Broken) ps h = tt
 no_card_open (Ends (Found card)) ps h = absurd h
 
-any_open : (t : Turn Stage) (ps : List Placed) → AnyInside ps → HasOpen t ps
+any_open : (t : RoundTurn Stage) (ps : List Placed) → AnyInside ps → HasOpen t ps
 any_open (Goes stage) ps h = tt
 any_open (Ends Empty) ps h = tt
 any_open (Ends Collision) ps h = tt
@@ -80,7 +80,7 @@ atqb_none (Err e) = tt
 
 sak_none : (n : ℕ) (before part : List ℕ) (sak : ℕ) → NoCard (in_a (after_sak n before part sak))
 sak_none n before part sak =
-    let P : Turn AStage → Type 0 = λ t. NoCard (in_a t) in
+    let P : RoundTurn AStage → Type 0 = λ t. NoCard (in_a t) in
     either P (bit sak 4 == 1) _ _ (either P (continues n part) _ _ tt tt) (either P (continues n part) _ _ tt (either P (bit sak 32 == 1) _ _ tt tt))
 
 -- only the answer to RATS or ATTRIB ends a round with a card
@@ -132,7 +132,7 @@ module _ (fsdi : ℕ) (stage : Stage) where
   bytes = (round_asks fsdi stage).bytes
 
   -- what follows the cards' answers, by the fate of what they sent
-  abbrev follows : Way → CardsHeard → Turn Stage
+  abbrev follows : Way → CardsHeard → RoundTurn Stage
   follows u h = round_hears stage (comes_back u (joined h.answers))
 
   -- the cards after a frame, whatever comes back of their answers
@@ -185,7 +185,7 @@ module _ (fsdi : ℕ) (stage : Stage) where
   away_take f (Some b) a = away_hear f.room wave b f.log f.cards a
 
 -- cards that are there fit, and one is in the block protocol where the round ended with a card; if they are gone, it doesn't end so
-abbrev pub Mode : ℕ → Turn Stage → Bool → List Placed → Type 0
+abbrev pub Mode : ℕ → RoundTurn Stage → Bool → List Placed → Type 0
 Mode fsdi turn true ps = AllAway ps × NoCard turn
 Mode fsdi turn false ps = AllFits fsdi turn ps × HasOpen turn ps
 
@@ -195,7 +195,7 @@ pub record Kept (f g : Field) : Type 0 where
   pub room : g.room ≡ f.room
   pub faces_stay : faces g.cards ≡ faces f.cards
 
-abbrev pub Fit : ℕ → Turn Stage → Field → Type 0
+abbrev pub Fit : ℕ → RoundTurn Stage → Field → Type 0
 Fit fsdi turn f = Lawful f × Mode fsdi turn f.air.gone f.cards
 
 module _ (fsdi : ℕ) (stage : Stage) where
@@ -238,9 +238,9 @@ module _ (fsdi : ℕ) (stage : Stage) where
   pub by_gone : (f : Field) (gone : Bool) → Lawful f → Mode fsdi (Goes stage) gone f.cards
       → Mode fsdi (round_hears stage (heard f)) (gone_by (gone_by gone (next_fate f.air.fates).down) (next_fate f.air.fates).up) (sent f).cards × Kept f (sent f)
   by_gone f false l m =
-      let legs = next_legs f.air.fates l.fates in
-      let o = kept_here f (next_fate f.air.fates).down legs.0 l.cards m.0 in (
-        here_after f (next_fate f.air.fates).down (next_fate f.air.fates).up legs.0 l.cards m.0,
+      let ways = next_ways f.air.fates l.fates in
+      let o = kept_here f (next_fate f.air.fates).down ways.0 l.cards m.0 in (
+        here_after f (next_fate f.air.fates).down (next_fate f.air.fates).up ways.0 l.cards m.0,
         record { log = o.log; room = refl; faces_stay = left_or (away (next_fate f.air.fates)) (taken f).cards f.cards o.faces_stay },
       )
   by_gone f true l m =
@@ -261,7 +261,7 @@ module _ (fsdi : ℕ) (stage : Stage) where
 -- ---- a round
 
 -- no reset is asked next
-abbrev pub Awake : Turn Stage → Type 0
+abbrev pub Awake : RoundTurn Stage → Type 0
 Awake (Ends e) = Unit {0}
 Awake (Goes Waking) = ⊥
 Awake (Goes Halting) = Unit {0}
@@ -269,11 +269,11 @@ Awake (Goes (WakingB woke)) = Unit {0}
 Awake (Goes (InA stage)) = Unit {0}
 Awake (Goes (InB stage)) = Unit {0}
 
-awake_a : (t : Turn AStage) → Awake (in_a t)
+awake_a : (t : RoundTurn AStage) → Awake (in_a t)
 awake_a (Goes s) = tt
 awake_a (Ends e) = tt
 
-awake_b : (t : Turn BStage) → Awake (in_b t)
+awake_b : (t : RoundTurn BStage) → Awake (in_b t)
 awake_b (Goes s) = tt
 awake_b (Ends e) = tt
 
@@ -328,7 +328,7 @@ module _ (fsdi : ℕ) where
 
   -- after an exchange the rest of the round follows
   rest_of : (n : ℕ) (stage : Stage) (f : Field) (h : Option Heard) (u : Field) (ending : Option RoundEnd) (t : Field)
-      → ((turn : Turn Stage) (g : Field) → Awake turn → Fit fsdi turn g → Plays (told field) fsdi n turn g ending t → Ended fsdi g ending t)
+      → ((turn : RoundTurn Stage) (g : Field) → Awake turn → Fit fsdi turn g → Plays (told field) fsdi n turn g ending t → Ended fsdi g ending t)
       → Fit fsdi (Goes stage) f → field_send f (wave fsdi stage) (bytes fsdi stage) ≡ (h, u)
       → AfterExchange (told field) fsdi (λ x. Plays (told field) fsdi n (round_hears stage x)) h u ending t → Ended fsdi f ending t
   rest_of n stage f h u ending t more fit sends rest =
@@ -342,7 +342,7 @@ module _ (fsdi : ℕ) where
       let e = more (round_hears stage (heard fsdi stage f)) g (stays_awake stage (heard fsdi stage f)) x.0 going in
       record { end = e.end; is = e.is; fit = e.fit; kept = kept_chain f g t x.1 e.kept }
 
-  plays_on : (n : ℕ) (turn : Turn Stage) (f : Field) (ending : Option RoundEnd) (t : Field) → Awake turn → Fit fsdi turn f → Plays (told field) fsdi n turn f ending t → Ended fsdi f ending t
+  plays_on : (n : ℕ) (turn : RoundTurn Stage) (f : Field) (ending : Option RoundEnd) (t : Field) → Awake turn → Fit fsdi turn f → Plays (told field) fsdi n turn f ending t → Ended fsdi f ending t
   unfolding Plays
   plays_on zero (Goes stage) f ending t awake fit x = absurd x
   plays_on zero (Ends e) f ending t awake fit x = is_over f e ending t fit x.0 x.1

@@ -1,32 +1,25 @@
 -- The frame size of the card with which a round ends.
-use Rattle.std.proofs.Common.{◌≡◌, ℕ, zero, suc, ◌+◌, ◌*◌, ◌<◌, ◌≤◌, ◌==◌, nat_lt, leb-true, ◌&&◌, true, false, List, length, Option, Some, None, subst, refl, arith}
+use Rattle.std.proofs.Common.{◌≡◌, ℕ, zero, suc, ◌+◌, ◌==◌, nat_lt, ◌&&◌, true, false, List, length, Option, Some, None, subst, refl}
 use Rattle.std.specs.Prelude.{slice_index, Result, Ok, not, ◌%◌, ◌/◌}
 use Rattle.ep_base.specs.declared.air.Wave.TheVariants.{ABare, A, B}
 use Rattle.ep_base.specs.declared.activation.Ats.{Ats}
 use Rattle.ep_base.specs.declared.activation.AtsFault.{AtsFault}
 use Rattle.ep_base.specs.declared.activation.Atqb.{Atqb}
 use Rattle.ep_base.specs.declared.activation.AtqbFault.{AtqbFault}
+use Rattle.ep_base.specs.declared.limits.TheConstants.{ROUND_EXCHANGES}
 use Rattle.ep_base.specs.Air.FrameSize.{frame_size}
-use Rattle.ep_base.specs.Cards.Activation.{ats, atqb, bit, announced, ats_fwi}
-use Rattle.ep_base.specs.Air.Heard.{Heard, Activated, RoundEnd, Empty, Collision, Unsupported, Broken, Found, Turn, Goes, Ends, is_silent}
+use Rattle.ep_base.proofs.Sizes.{IsSize, frame_sized}
+use Rattle.ep_base.specs.Cards.Activation.{ats, atqb, bit, interface_bytes, ats_fwi}
+use Rattle.ep_base.specs.Air.Heard.{Heard, Activated, RoundEnd, Empty, Collision, Unsupported, Broken, Found, RoundTurn, Goes, Ends, is_silent}
 use Rattle.ep_base.specs.Cards.TypeA.{AStage, Woken, Level, Select, Complete, is_level, continues, a_says, after_sak, after_ats}
 use Rattle.ep_base.specs.Cards.TypeB.{b_says, after_atqb}
 use Rattle.ep_base.specs.Poll.Round.{Stage, Waking, Halting, WakingB, InA, InB, round_hears, in_a, in_b}
 use Rattle.ep_base.specs.Air.Medium.{MediumSteps}
 use Rattle.ep_base.specs.Poll.Polling.{AfterExchange, Plays, PlaysRound}
-use Rattle.law_round.proofs.Presenting.{either, when, answered}
-
-abbrev pub IsSize : ℕ → Type 0
-IsSize n = (16 ≤ n) × (n ≤ 256)
-
-pub frame_sized : (code : ℕ) → IsSize (frame_size code)
-unfolding frame_size
-frame_sized code =
-    when IsSize (nat_lt code 5) (16 + 8 * code) _ (λ e. let few : code < 5 = leb-true _ _ e in (omega arith, omega (arith, few)))
-    (λ e. either IsSize (code == 5) 64 _ (omega arith, omega arith) (either IsSize (code == 6) 96 _ (omega arith, omega arith) (either IsSize (code == 7) 128 256 (omega arith, omega arith) (omega arith, omega arith))))
+use Rattle.law_round.proofs.Presenting.{either, answered}
 
 -- what is known of the card's frame size
-abbrev Sized : Turn Stage → Type 0
+abbrev Sized : RoundTurn Stage → Type 0
 Sized (Goes Waking) = Unit {0}
 Sized (Goes Halting) = Unit {0}
 Sized (Goes (WakingB woke)) = Unit {0}
@@ -45,7 +38,7 @@ ats_sized read bytes =
     either P (length bytes == 0) _ _ tt
     (either P (not (slice_index bytes 0 == length bytes)) _ _ tt
     (either P (length bytes == 1) (Ok (record { fsc = frame_size 2; fwi = 4 })) _ (frame_sized 2)
-    (either P (nat_lt (length bytes) (2 + announced (slice_index bytes 1))) _ (Ok (record { fsc = frame_size (slice_index bytes 1 % 16); fwi = ats_fwi bytes (slice_index bytes 1) })) tt (frame_sized (slice_index bytes 1 % 16)))))
+    (either P (nat_lt (length bytes) (2 + interface_bytes (slice_index bytes 1))) _ (Ok (record { fsc = frame_size (slice_index bytes 1 % 16); fwi = ats_fwi bytes (slice_index bytes 1) })) tt (frame_sized (slice_index bytes 1 % 16)))))
 
 atqb_of_sized : (a : Atqb) → IsSize a.fsc → Sized (in_b (after_atqb (Ok a)))
 atqb_of_sized a h = either (λ t. Sized (in_b t)) a.iso4 (Goes (record { pupi = a.pupi; fsc = a.fsc; fwi = a.fwi })) (Ends Unsupported) h tt
@@ -59,7 +52,7 @@ atqb_sized bytes =
 
 sak_sized : (n : ℕ) (before part : List ℕ) (sak : ℕ) → Sized (in_a (after_sak n before part sak))
 sak_sized n before part sak =
-    let P : Turn AStage → Type 0 = λ t. Sized (in_a t) in
+    let P : RoundTurn AStage → Type 0 = λ t. Sized (in_a t) in
     either P (bit sak 4 == 1) _ _ (either P (continues n part) _ _ tt tt) (either P (continues n part) _ _ tt (either P (bit sak 32 == 1) _ _ tt tt))
 
 sized : (stage : Stage) (heard : Heard) → Sized (Goes stage) → Sized (round_hears stage heard)
@@ -80,7 +73,7 @@ sized (InB stage) heard h =
 
 module _ {S : Type 0} (steps : MediumSteps S) (fsdi : ℕ) where
   by_heard : (n : ℕ) (stage : Stage) (heard : Option Heard) (u : S) (ending : Option RoundEnd) (t : S) (card : Activated) → Sized (Goes stage) → ending ≡ Some (Found card)
-      → ((turn : Turn Stage) → Sized turn → Plays steps fsdi n turn u ending t → IsSize card.fsc)
+      → ((turn : RoundTurn Stage) → Sized turn → Plays steps fsdi n turn u ending t → IsSize card.fsc)
       → AfterExchange steps fsdi (λ h. Plays steps fsdi n (round_hears stage h)) heard u ending t → IsSize card.fsc
   by_heard n stage None u ending t card h e more x = absurd cc
   by_heard n stage (Some heard) u ending t card h e more x = more (round_hears stage heard) (sized stage heard h) x
@@ -88,7 +81,7 @@ module _ {S : Type 0} (steps : MediumSteps S) (fsdi : ℕ) where
   at_end : (e : RoundEnd) (ending : Option RoundEnd) (card : Activated) → Sized (Ends e) → ending ≡ Some e → ending ≡ Some (Found card) → IsSize card.fsc
   at_end e ending card h is found = let same : e ≡ Found card = cc in subst (λ r. Sized (Ends r)) same h
 
-  plays_sized : (n : ℕ) (turn : Turn Stage) (s : S) (ending : Option RoundEnd) (t : S) (card : Activated) → Sized turn → ending ≡ Some (Found card) → Plays steps fsdi n turn s ending t → IsSize card.fsc
+  plays_sized : (n : ℕ) (turn : RoundTurn Stage) (s : S) (ending : Option RoundEnd) (t : S) (card : Activated) → Sized turn → ending ≡ Some (Found card) → Plays steps fsdi n turn s ending t → IsSize card.fsc
   unfolding Plays
   plays_sized zero (Goes stage) s ending t card h e x = absurd x
   plays_sized zero (Ends r) s ending t card h e x = at_end r ending card h x.0 e
@@ -97,4 +90,4 @@ module _ {S : Type 0} (steps : MediumSteps S) (fsdi : ℕ) where
       by_heard n stage x.0 x.1 ending t card h e (λ turn g p. plays_sized n turn x.1 ending t card g e p) x.3
 
   pub round_sized : (s t : S) (card : Activated) → PlaysRound steps fsdi s (Some (Found card)) t → IsSize card.fsc
-  round_sized s t card x = plays_sized 11 (Goes Waking) s (Some (Found card)) t card tt refl x
+  round_sized s t card x = plays_sized ROUND_EXCHANGES (Goes Waking) s (Some (Found card)) t card tt refl x

@@ -3,9 +3,10 @@ use Rattle.std.proofs.Common.{◌≡◌, ℕ, zero, suc, ◌+◌, ◌*◌, ◌/�
 use Rattle.std.proofs.lemmas.Bool.{lt-leb}
 use Rattle.std.specs.Prelude.{slice_index, not, Result}
 use Rattle.std.specs.Str.{bytes_eq}
+use Rattle.ep_base.specs.declared.limits.TheConstants.{ROUND_EXCHANGES}
 use Rattle.ep_base.specs.declared.air.Wave.TheVariants.{ABare, A, B}
 use Rattle.ep_base.specs.Air.Heard.{framed, Goes, Ends, says_opened, on_answer, RoundEnd, Broken, Unsupported, Found, CardHear, Mute, Sends, Opens}
-use Rattle.ep_base.specs.Cards.Activation.{ats, ats_fwi, bit, waiting, announced}
+use Rattle.ep_base.specs.Cards.Activation.{ats, ats_fwi, bit, waiting, interface_bytes}
 use Rattle.ep_base.specs.declared.activation.Ats.{Ats}
 use Rattle.ep_base.specs.declared.activation.AtsFault.{AtsFault}
 use Rattle.ep_base.specs.Air.FrameSize.{frame_size}
@@ -72,10 +73,10 @@ reads false true false true v w x y z ha hb hc hd = cc
 
 -- an ATS that is long enough for what its T0 announces
 ats_ok : (bytes : List ℕ) → nat_eq (length bytes) 0 ≡ false → nat_eq (slice_index bytes 0) (length bytes) ≡ true → nat_eq (length bytes) 1 ≡ false
-    → nat_lt (length bytes) (2 + announced (slice_index bytes 1)) ≡ false
+    → nat_lt (length bytes) (2 + interface_bytes (slice_index bytes 1)) ≡ false
     → ats bytes ≡ Ok (record { fsc = frame_size (slice_index bytes 1 % 16); fwi = ats_fwi bytes (slice_index bytes 1) })
 unfolding ats
-ats_ok bytes a b c d = reads (nat_eq (length bytes) 0) (nat_eq (slice_index bytes 0) (length bytes)) (nat_eq (length bytes) 1) (nat_lt (length bytes) (2 + announced (slice_index bytes 1))) _ _ _ _ _ a b c d
+ats_ok bytes a b c d = reads (nat_eq (length bytes) 0) (nat_eq (slice_index bytes 0) (length bytes)) (nat_eq (length bytes) 1) (nat_lt (length bytes) (2 + interface_bytes (slice_index bytes 1))) _ _ _ _ _ a b c d
 
 fwi_read : (bytes : List ℕ) (t0 : ℕ) → bit t0 16 ≡ 0 → bit t0 32 ≡ 1 → ats_fwi bytes t0 ≡ waiting (slice_index bytes 2 / 16)
 fwi_read bytes t0 ta tb = ap (λ n. if n == 1 then waiting (slice_index bytes (2 + bit t0 16) / 16) else 4) tb ∙ ap (λ n. waiting (slice_index bytes (2 + n) / 16)) ta
@@ -123,7 +124,7 @@ after_last level uid part sak a b c =
 -- the whole round, by the UID's length
 pub by_uid : (fsdi : ℕ) (uid : List ℕ) → IsUid uid → (sak fsci fwi : ℕ) (historical : List ℕ) → fsdi < 16
     → FollowsA (record { uid = uid; sak = sak; fsci = fsci; fwi = fwi; historical = historical })
-    → solo 11 fsdi (OfA (record { uid = uid; sak = sak; fsci = fsci; fwi = fwi; historical = historical }) Idle) (Goes Waking)
+    → solo ROUND_EXCHANGES fsdi (OfA (record { uid = uid; sak = sak; fsci = fsci; fwi = fwi; historical = historical }) Idle) (Goes Waking)
     ≡ Ends (Found (found_a (record { uid = uid; sak = sak; fsci = fsci; fwi = fwi; historical = historical })))
 by_uid fsdi _ (Four a b c d first) sak fsci fwi historical h follows =
     let uid : List ℕ = a ∷ b ∷ c ∷ d ∷ [] in

@@ -1,6 +1,7 @@
 -- A round with one card of Type B alone.
 use Rattle.std.proofs.Common.{◌≡◌, ℕ, zero, suc, ◌+◌, ◌*◌, ◌/◌, ◌<◌, ◌==◌, ◌&&◌, Bool, true, false, List, [], ◌∷◌, Ok, ap, ◌∙◌, refl, arith, le-leb, if◌then◌else◌}
 use Rattle.std.specs.Str.{bytes_eq}
+use Rattle.ep_base.specs.declared.limits.TheConstants.{ROUND_EXCHANGES}
 use Rattle.ep_base.specs.declared.air.Wave.TheVariants.{B}
 use Rattle.ep_base.specs.Air.Heard.{framed, Goes, Ends, says_opened, on_answer, RoundEnd, Found, CardHear, Mute, Sends, Opens}
 use Rattle.ep_base.specs.Cards.Activation.{atqb, bit, waiting}
@@ -39,7 +40,7 @@ atqb_read a b c d e f g h fsci fwi =
     ∙ ap (λ n. Ok (record { pupi = pupi; fsc = frame_size fsci; fwi = waiting fwi; iso4 = (n == 1) })) one
 
 pub by_pupi : (fsdi : ℕ) (pupi app : List ℕ) → IsFour pupi → IsFour app → (fsci fwi : ℕ) (iso4 : Bool) → fsdi < 16 → iso4 ≡ true
-    → solo 11 fsdi (OfB (record { pupi = pupi; app_data = app; fsci = fsci; fwi = fwi; iso4 = iso4 }) BIdle) (Goes Waking)
+    → solo ROUND_EXCHANGES fsdi (OfB (record { pupi = pupi; app_data = app; fsci = fsci; fwi = fwi; iso4 = iso4 }) BIdle) (Goes Waking)
     ≡ Ends (Found (found_b (record { pupi = pupi; app_data = app; fsci = fsci; fwi = fwi; iso4 = iso4 })))
 unfolding b_takes
 by_pupi fsdi _ _ (Bytes a b c d) (Bytes e f g h) fsci fwi false low i = cc

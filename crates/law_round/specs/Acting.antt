@@ -1,12 +1,11 @@
 -- A field with an open link, as the wire of that link (this project's own).
-use Rattle.std.specs.Prelude.{◌≡◌, ℕ, zero, suc, ◌+◌, ◌≤◌, ◌^◌, nat_lt, ◌&&◌, Bool, true, false, not, if◌then◌else◌, List, [], ◌∷◌, ◌++◌, length, Option, Some, None}
+use Rattle.std.specs.Prelude.{◌≡◌, ℕ, zero, suc, ◌+◌, ◌≤◌, ◌^◌, nat_lt, ◌&&◌, Bool, true, false, not, if◌then◌else◌, List, [], ◌∷◌, ◌++◌, length, Option, Some}
 use Rattle.ep_base.specs.declared.air.CardKind.{CardKind}
-use Rattle.ep_base.specs.declared.air.CardKind.TheVariants as kinds
 use Rattle.ep_base.specs.Air.FrameSize.{frame_size}
 use Rattle.ep_base.specs.Air.Heard.{Heard, Activated, Found, same_kind}
 use Rattle.ep_base.specs.Link.Block.{Block, same}
 use Rattle.ep_base.specs.Link.CardEnd.{is_halted}
-use Rattle.ep_base.specs.Link.Dialogue.{opened}
+use Rattle.ep_base.specs.Link.Dialogue.{opened_reader}
 use Rattle.ep_base.specs.Link.LinkFrames.{LinkSetting}
 use Rattle.ep_base.specs.Air.Fates.{Way, Passes, Loses, Bursts, Leaves, Fate}
 use Rattle.ep_base.specs.Air.Medium.{told}
@@ -26,9 +25,9 @@ is_way (Bursts start mask) = nat_lt mask (2 ^ 16)
 is_way Leaves = true
 
 -- Whether all bursts of these fates are (this project's own).
-abbrev pub are_passages : List Fate → Bool
-are_passages [] = true
-are_passages (f ∷ fates) = is_way f.down && (is_way f.up && are_passages fates)
+abbrev pub are_fates : List Fate → Bool
+are_fates [] = true
+are_fates (f ∷ fates) = is_way f.down && (is_way f.up && are_fates fates)
 
 -- Whether the card has the open link: both its rules are of this kind, it is there until the cards are gone, and it is in the block protocol
 -- until it has answered S(DESELECT) (ISO/IEC 14443-4).
@@ -45,7 +44,7 @@ linked_at kind gone (suc n) (p ∷ ps) = is_out p.outside && linked_at kind gone
 
 -- Whether the field has an open link with the card after so many others, and lawful fates (this project's own).
 abbrev pub is_open : CardKind → ℕ → Field → Bool
-is_open kind n f = linked_at kind f.air.gone n f.cards && are_passages f.air.fates
+is_open kind n f = linked_at kind f.air.gone n f.cards && are_fates f.air.fates
 
 -- The end of the link of the card after so many others (this project's own).
 abbrev pub party_at : ℕ → List Placed → Party
@@ -77,7 +76,7 @@ OthersStay = (set : LinkSetting) (n : ℕ) (b : Block) (heard : Option Heard) (s
 pub record IsReady (set : LinkSetting) (n : ℕ) (t : Field) : Type 0 where
   pub is : is_open set.kind n t ≡ true
   pub wire : OfLink set (shown n t)
-  pub rest : AtRest opened (shown n t).party.card
+  pub rest : AtRest opened_reader (shown n t).party.card
 
 -- One card has the link that was just opened with the card that was found, and it is ready for a command (this project's own).
 abbrev pub OpensTo : ℕ → Activated → LinkSetting → Field → Type 0

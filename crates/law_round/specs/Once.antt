@@ -2,7 +2,7 @@
 use Rattle.std.specs.Prelude.{◌≡◌, ℕ, ◌+◌, ◌≤◌, true, List, length, Option}
 use Rattle.ep_base.specs.Air.Heard.{Heard}
 use Rattle.ep_base.specs.Link.Block.{Deselect}
-use Rattle.ep_base.specs.Link.ReaderEnd.{Reader, Turn, Gives, begin}
+use Rattle.ep_base.specs.Link.ReaderEnd.{Reader, ReaderTurn, Gives, begin}
 use Rattle.ep_base.specs.Link.LinkFrames.{LinkSetting}
 use Rattle.ep_base.specs.Air.Medium.{told}
 use Rattle.ep_base.specs.Cards.Apdu.{is_command}
@@ -14,7 +14,7 @@ use Rattle.ep_base.specs.Cards.Lawful.{names, faces, Lawful}
 -- Whatever becomes of the frames, a command over an open link of a field is executed once by the linked card, or at most once where the link is
 -- spent, and the link stays open (this project's own).
 abbrev pub OnceInField : Type 0
-OnceInField = (set : LinkSetting) (n : ℕ) (s : Field) (r : Reader) (command : List ℕ) (hs : List Heard) (turn : Turn) (t : Field) →
+OnceInField = (set : LinkSetting) (n : ℕ) (s : Field) (r : Reader) (command : List ℕ) (hs : List Heard) (turn : ReaderTurn) (t : Field) →
     is_open set.kind n s ≡ true → OfLink set (shown n s) → AtRest r (shown n s).party.card → is_command command ≡ true →
     Follows (told field) set hs (begin set.frames.card command r) s turn t → OnceSo (shown n s) command turn (shown n t) × (is_open set.kind n t ≡ true)
 
@@ -27,7 +27,7 @@ ClosesQuietly = (set : LinkSetting) (n : ℕ) (s t : Field) (heard : Option Hear
 -- Blocks of the link, however many, leave the field lawful, the other cards as they are up to their presence, and each card's kind and
 -- identifier (this project's own).
 abbrev pub LeavesOthers : Type 0
-LeavesOthers = (set : LinkSetting) (n : ℕ) (s t : Field) (r : Reader) (hs : List Heard) (turn : Turn) →
+LeavesOthers = (set : LinkSetting) (n : ℕ) (s t : Field) (r : Reader) (hs : List Heard) (turn : ReaderTurn) →
     is_open set.kind n s ≡ true → Lawful s → Follows (told field) set hs r s turn t →
     Lawful t × (faces (without n t.cards) ≡ faces (without n s.cards)) × (names t.cards ≡ names s.cards)
 

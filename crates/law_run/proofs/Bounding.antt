@@ -2,12 +2,13 @@
 use Rattle.std.proofs.Common.{◌≡◌, ℕ, zero, suc, ◌+◌, ◌-◌, ◌*◌, ◌≤◌, Bool, true, false, cond, List, [], ◌∷◌, length, ap, ◌∙◌, arith, Some, None, Option}
 use Rattle.std.proofs.lemmas.Bool.{cond_both}
 use Rattle.std.proofs.Math.Nat.{add-mul}
+use Rattle.ep_base.specs.declared.limits.TheConstants.{NAMED, ROUNDS}
 use Rattle.ep_base.specs.declared.outcome.OutcomeKind.{OutcomeKind}
 use Rattle.ep_base.specs.declared.outcome.OutcomeKind.TheVariants.{SelectNext, TryAgain, Approved, Declined, OnlineRequest, TryAnother, EndApplication}
 use Rattle.ep_base.specs.declared.outcome.Message.{Message}
 use Rattle.ep_base.specs.declared.outcome.Message.TheVariants.{PresentCard, InsertOrSwipe, OneCardOnly}
 use Rattle.ep_base.specs.Air.Heard.{Activated, RoundEnd, Empty, Collision, Unsupported, Broken, Found}
-use Rattle.ep_rules.specs.EntryPoint.PreProcessing.{Ready, any_allowed}
+use Rattle.ep_rules.specs.EntryPoint.PreProcessing.{PreparedOne, any_allowed}
 use Rattle.ep_base.specs.Cards.Apdu.{is_9000}
 use Rattle.ep_base.specs.Objects.Directory.{directory}
 use Rattle.ep_rules.specs.EntryPoint.Candidates.{Candidate, candidates}
@@ -23,7 +24,7 @@ pub most_more : (talk : Talk) (m n : ℕ) → m ≤ n → AtMost m talk → AtMo
 most_more (Over ending) m n le most = tt
 most_more (Say x next) m n le most = most_more next m n le most
 most_more (Poll next) m n le most = λ e. most_more (next e) m n le (most e)
-most_more (Command c next) m n le most = (omega (arith, most.0), λ r short. most_more (next r) (m - 1) (n - 1) (omega arith) (most.1 r short))
+most_more (Command c next) m n le most = (omega (arith, most.0), λ r. most_more (next r) (m - 1) (n - 1) (omega arith) (most.1 r))
 most_more (Close next) m n le most = most_more next m n le most
 
 left_more : (m n : ℕ) (e : RoundEnd) → m ≤ n → starts_left m e ≤ starts_left n e
@@ -83,7 +84,7 @@ module _ {S : Type 0} (k : KernelSteps S) (falls : FallingCounts k) where
   module _ (next : Verdict → S → Talk) (rest : ℕ) (most : (v : Verdict) → Follows rest (next v)) where
     move_most : (more : S → Option (List ℕ) → Talk) → ((last : Option (List ℕ)) → Follows rest (λ s. more s last)) → (s : S) (p : KernelStep × S) → CountsFall k p.0 s p.1 → AtMost (rest + k.commands s) (after_move next more p)
     move_most more h s ((Send command), t) fall =
-        (omega (arith, fall.0), λ r short. most_more (more t (Some r)) (rest + k.commands t) (rest + k.commands s - 1) (omega (arith, fall.0)) (h (Some r) t))
+        (omega (arith, fall.0), λ r. most_more (more t (Some r)) (rest + k.commands t) (rest + k.commands s - 1) (omega (arith, fall.0)) (h (Some r) t))
     move_most more h s ((Done verdict), t) fall = most_more (next verdict t) (rest + k.commands t) (rest + k.commands s) (omega (arith, fall.0)) (most verdict t)
 
     kernel_most : (n : ℕ) (last : Option (List ℕ)) → Follows rest (λ s. kernel_runs k next n s last)
@@ -104,43 +105,43 @@ module _ {S : Type 0} (k : KernelSteps S) (falls : FallingCounts k) where
       let n = length cs + rest + k.commands s in
       let later : Follows (length cs + rest) again = λ t. most_more (again t) (rest + k.commands t) (length cs + rest + k.commands t) (omega arith) (a t) in (
         omega arith,
-        λ r short.
+        λ r.
             most_more (cond (is_9000 r) (activates k (after_verdict again (selects k again cs)) (given_to c r) s) (selects k again cs s)) n (length (c ∷ cs) + rest + k.commands s - 1) (omega arith)
             (cond_both (is_9000 r) (activates k (after_verdict again (selects k again cs)) (given_to c r) s) (selects k again cs s) (AtMost n)
             (λ h. activates_most (after_verdict again (selects k again cs)) (length cs + rest) (verdict_most again (selects k again cs) (length cs + rest) later more) (given_to c r) s)
             (λ h. more s)),
       )
 
-  start_c_most : (again : S → Talk) (rest : ℕ) → Follows rest again → (ones : List Ready) → Follows (1 + 28 * length ones + rest) (start_c k again ones)
+  start_c_most : (again : S → Talk) (rest : ℕ) → Follows rest again → (ones : List PreparedOne) → Follows (1 + NAMED * length ones + rest) (start_c k again ones)
   start_c_most again rest a ones s = (
     omega arith,
-    λ r short.
+    λ r.
         let cs = candidates ones (directory r) in
-        let few : length cs ≤ 28 * length ones = few_lem ones r short in
+        let few : length cs ≤ 28 * length ones = few_lem ones (directory r) in
         most_more (selects k again cs s) (length cs + rest + k.commands s) (1 + 28 * length ones + rest + k.commands s - 1) (omega arith) (selects_most again rest a cs s),
   )
 
-  once_more : (n combinations : ℕ) → (1 + suc n) * (1 + 28 * combinations) ≡ 1 + 28 * combinations + (1 + n) * (1 + 28 * combinations)
+  once_more : (n combinations : ℕ) → (1 + suc n) * (1 + NAMED * combinations) ≡ 1 + NAMED * combinations + (1 + n) * (1 + NAMED * combinations)
   once_more n combinations =
       let e : 1 + suc n ≡ 1 + (1 + n) = omega arith in
-      ap (λ m. m * (1 + 28 * combinations)) e ∙ (let d = add-mul 1 (1 + n) (1 + 28 * combinations) in omega arith)
+      ap (λ m. m * (1 + NAMED * combinations)) e ∙ (let d = add-mul 1 (1 + n) (1 + NAMED * combinations) in omega arith)
 
-  starts_most : (ones : List Ready) (n : ℕ) (s : S) → AtMost (log_bound n (length ones) (k.commands s)) (starts k ones n s)
+  starts_most : (ones : List PreparedOne) (n : ℕ) (s : S) → AtMost (log_bound n (length ones) (k.commands s)) (starts k ones n s)
   unfolding start_b
   starts_most ones zero s =
       rounds_most OneCardOnly (presented k (λ t. Over Finished) ones s) (log_bound zero (length ones) (k.commands s))
-      (λ card. most_more (start_c k (λ t. Over Finished) ones s) (1 + 28 * length ones + 0 + k.commands s) (log_bound zero (length ones) (k.commands s)) (omega arith) (start_c_most (λ t. Over Finished) 0 (λ t. tt) ones s)) 64 false
+      (λ card. most_more (start_c k (λ t. Over Finished) ones s) (1 + NAMED * length ones + 0 + k.commands s) (log_bound zero (length ones) (k.commands s)) (omega arith) (start_c_most (λ t. Over Finished) 0 (λ t. tt) ones s)) ROUNDS false
   starts_most ones (suc n) s =
-      let rest = (1 + n) * (1 + 28 * length ones) in
+      let rest = (1 + n) * (1 + NAMED * length ones) in
       let e = once_more n (length ones) in
       rounds_most OneCardOnly (presented k (starts k ones n) ones s) (log_bound (suc n) (length ones) (k.commands s))
-      (λ card. most_more (start_c k (starts k ones n) ones s) (1 + 28 * length ones + rest + k.commands s) (log_bound (suc n) (length ones) (k.commands s)) (omega arith) (start_c_most (starts k ones n) rest (λ t. starts_most ones n t) ones s)) 64 false
+      (λ card. most_more (start_c k (starts k ones n) ones s) (1 + NAMED * length ones + rest + k.commands s) (log_bound (suc n) (length ones) (k.commands s)) (omega arith) (start_c_most (starts k ones n) rest (λ t. starts_most ones n t) ones s)) ROUNDS false
 
-ready_most : (n : ℕ) (ones : List Ready) (m : ℕ) (t : Talk) → AtMost m t → AtMost m (say_ready n ones t)
+ready_most : (n : ℕ) (ones : List PreparedOne) (m : ℕ) (t : Talk) → AtMost m t → AtMost m (say_ready n ones t)
 ready_most n [] m t h = h
 ready_most n (one ∷ ones) m t h = ready_most (n + 1) ones m t h
 
-pub few_commands_lem : {S : Type 0} (k : KernelSteps S) → FallingCounts k → (txn_type amount : ℕ) (ones : List Ready) (s : S)
+pub few_commands_lem : {S : Type 0} (k : KernelSteps S) → FallingCounts k → (txn_type amount : ℕ) (ones : List PreparedOne) (s : S)
     → AtMost (log_bound (k.restarts s) (length ones) (k.commands s)) (transaction k txn_type amount ones s)
 few_commands_lem k falls txn_type amount ones s =
     let m = log_bound (k.restarts s) (length ones) (k.commands s) in
@@ -200,22 +201,22 @@ module _ {S : Type 0} (k : KernelSteps S) where
         cond_both (is_9000 r) (activates k (after_verdict again (selects k again cs)) (given_to c r) s) (selects k again cs s) (AtMostStarts m)
         (λ h. kernel_starts (selects k again cs) (selects_starts cs) (k.commands t + 1) t None) (λ h. selects_starts cs s)
 
-    presented_starts : (ones : List Ready) (s : S) (card : Activated) → AtMostStarts m (presented k again ones s card)
+    presented_starts : (ones : List PreparedOne) (s : S) (card : Activated) → AtMostStarts m (presented k again ones s card)
     presented_starts ones s card = λ r. selects_starts (candidates ones (directory r)) s
 
-  starts_starts : (ones : List Ready) (n : ℕ) (s : S) → AtMostStarts (1 + n) (starts k ones n s)
+  starts_starts : (ones : List PreparedOne) (n : ℕ) (s : S) → AtMostStarts (1 + n) (starts k ones n s)
   unfolding start_b
   starts_starts ones zero s =
-      rounds_starts OneCardOnly (presented k (λ t. Over Finished) ones s) 0 (λ card. presented_starts 0 (λ t. Over Finished) (λ t. tt) ones s card) 64 false
+      rounds_starts OneCardOnly (presented k (λ t. Over Finished) ones s) 0 (λ card. presented_starts 0 (λ t. Over Finished) (λ t. tt) ones s card) ROUNDS false
   starts_starts ones (suc n) s =
       rounds_starts OneCardOnly (presented k (starts k ones n) ones s) (suc n)
-      (λ card. presented_starts (suc n) (starts k ones n) (λ t. starts_more (starts k ones n t) (1 + n) (suc n) (omega arith) (starts_starts ones n t)) ones s card) 64 false
+      (λ card. presented_starts (suc n) (starts k ones n) (λ t. starts_more (starts k ones n t) (1 + n) (suc n) (omega arith) (starts_starts ones n t)) ones s card) ROUNDS false
 
-ready_starts : (n : ℕ) (ones : List Ready) (m : ℕ) (t : Talk) → AtMostStarts m t → AtMostStarts m (say_ready n ones t)
+ready_starts : (n : ℕ) (ones : List PreparedOne) (m : ℕ) (t : Talk) → AtMostStarts m t → AtMostStarts m (say_ready n ones t)
 ready_starts n [] m t h = h
 ready_starts n (one ∷ ones) m t h = ready_starts (n + 1) ones m t h
 
-pub few_starts_lem : {S : Type 0} (k : KernelSteps S) (txn_type amount : ℕ) (ones : List Ready) (s : S) → AtMostStarts (1 + k.restarts s) (transaction k txn_type amount ones s)
+pub few_starts_lem : {S : Type 0} (k : KernelSteps S) (txn_type amount : ℕ) (ones : List PreparedOne) (s : S) → AtMostStarts (1 + k.restarts s) (transaction k txn_type amount ones s)
 few_starts_lem k txn_type amount ones s =
     ready_starts 1 ones (1 + k.restarts s)
     (cond (any_allowed ones) (Say (Notice PresentCard) (starts k ones (k.restarts s) s)) (Say (Outcome TryAnother) (Say (Notice InsertOrSwipe) (Over Finished))))
@@ -223,17 +224,17 @@ few_starts_lem k txn_type amount ones s =
     (λ h. starts_starts k ones (k.restarts s) s) (λ h. tt))
 
 pub few_apdus_lem : FewApdus
-few_apdus_lem (Over ending) n results most short = omega arith
-few_apdus_lem (Say x next) n results most short = few_apdus_lem next n results most short
-few_apdus_lem (Poll next) n [] most short = omega arith
-few_apdus_lem (Poll next) n ((Round e) ∷ results) most short = few_apdus_lem (next e) n results (most e) short
-few_apdus_lem (Poll next) n ((Response r) ∷ results) most short = omega arith
-few_apdus_lem (Poll next) n (Closed ∷ results) most short = omega arith
-few_apdus_lem (Command c next) n [] most short = omega (arith, most.0)
-few_apdus_lem (Command c next) n ((Round e) ∷ results) most short = omega (arith, most.0)
-few_apdus_lem (Command c next) n ((Response r) ∷ results) most short = let rest = few_apdus_lem (next r) (n - 1) results (most.1 r short.0) short.1 in omega (arith, most.0)
-few_apdus_lem (Command c next) n (Closed ∷ results) most short = omega (arith, most.0)
-few_apdus_lem (Close next) n [] most short = omega arith
-few_apdus_lem (Close next) n ((Round e) ∷ results) most short = omega arith
-few_apdus_lem (Close next) n ((Response r) ∷ results) most short = omega arith
-few_apdus_lem (Close next) n (Closed ∷ results) most short = few_apdus_lem next n results most short
+few_apdus_lem (Over ending) n results most = omega arith
+few_apdus_lem (Say x next) n results most = few_apdus_lem next n results most
+few_apdus_lem (Poll next) n [] most = omega arith
+few_apdus_lem (Poll next) n ((Round e) ∷ results) most = few_apdus_lem (next e) n results (most e)
+few_apdus_lem (Poll next) n ((Response r) ∷ results) most = omega arith
+few_apdus_lem (Poll next) n (Closed ∷ results) most = omega arith
+few_apdus_lem (Command c next) n [] most = omega (arith, most.0)
+few_apdus_lem (Command c next) n ((Round e) ∷ results) most = omega (arith, most.0)
+few_apdus_lem (Command c next) n ((Response r) ∷ results) most = let rest = few_apdus_lem (next r) (n - 1) results (most.1 r) in omega (arith, most.0)
+few_apdus_lem (Command c next) n (Closed ∷ results) most = omega (arith, most.0)
+few_apdus_lem (Close next) n [] most = omega arith
+few_apdus_lem (Close next) n ((Round e) ∷ results) most = omega arith
+few_apdus_lem (Close next) n ((Response r) ∷ results) most = omega arith
+few_apdus_lem (Close next) n (Closed ∷ results) most = few_apdus_lem next n results most

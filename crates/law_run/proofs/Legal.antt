@@ -2,17 +2,18 @@
 use Rattle.std.proofs.Common.{◌≡◌, ◌==◌, ◌&&◌, if◌then◌else◌, ℕ, zero, suc, ◌+◌, ◌≤◌, nat_le, Bool, true, false, cond, List, [], ◌∷◌, ◌++◌, length, length-append, refl, arith, Some, None, Option}
 use Rattle.std.proofs.lemmas.Bool.Decides.{nat_tests}
 use Rattle.std.proofs.lemmas.Bool.{cond_both, and_parts, leb-true}
+use Rattle.ep_base.specs.declared.limits.TheConstants.{ROUNDS}
 use Rattle.ep_base.specs.declared.outcome.OutcomeKind.{OutcomeKind}
 use Rattle.ep_base.specs.declared.outcome.OutcomeKind.TheVariants.{SelectNext, TryAgain, Approved, Declined, OnlineRequest, TryAnother, EndApplication}
 use Rattle.ep_base.specs.declared.outcome.Message.{Message}
 use Rattle.ep_base.specs.declared.outcome.Message.TheVariants.{PresentCard, InsertOrSwipe, OneCardOnly}
 use Rattle.ep_base.specs.Air.Heard.{Activated, RoundEnd, Empty, Collision, Unsupported, Broken, Found}
-use Rattle.ep_rules.specs.EntryPoint.PreProcessing.{Ready, any_allowed}
+use Rattle.ep_rules.specs.EntryPoint.PreProcessing.{PreparedOne, any_allowed}
 use Rattle.ep_base.specs.Cards.Apdu.{is_command, select, ppse_name, is_9000}
 use Rattle.ep_base.specs.Objects.Directory.{directory}
 use Rattle.ep_rules.specs.EntryPoint.Candidates.{Candidate, candidates, extended_name, final_command}
 use Rattle.ep_rules.specs.EntryPoint.Event.{Verdict, Notice, Outcome, Finished}
-use Rattle.ep_rules.specs.EntryPoint.Kernel.{KernelStep, Send, Done, KernelSteps, Step, Script, Awaited, Running, script_for, without_script, begun, scripted, goes_on, answered, running_step}
+use Rattle.ep_rules.specs.EntryPoint.Kernel.{KernelStep, Send, Done, KernelSteps, Step, Script, Awaited, Running, script_for, without_script, begun, scripted, next_step, answered, running_step}
 use Rattle.ep_rules.specs.EntryPoint.KernelCommands.{IsSent, Begins, Steps, SendsCommands, StepsSend, ScriptsSend, RunningSends, ScriptedSends}
 use Rattle.ep_rules.specs.EntryPoint.Talk.{Talk, Over, Say, IsLegal, is_found, say_collision, by_end, rounds}
 use Rattle.ep_rules.specs.EntryPoint.Transaction.{start_b, say_message, after_kind, after_verdict, after_move, kernel_runs, activates, given_to, selects, presented, starts, say_ready}
@@ -82,7 +83,7 @@ module _ (test : List ℕ → Bool) where
       kernel_legal more h (suc n) last s g =
           move_legal more h (kernel_runs k (after_verdict again more) n) (kernel_legal more h n) (k.step s last) (sent.sends s last g) (sent.step_good s last g)
 
-      selects_legal : (ones : List Ready) (cs : List Candidate) → Each (IsCandidate ones) cs → AllLegal true (selects k again cs)
+      selects_legal : (ones : List PreparedOne) (cs : List Candidate) → Each (IsCandidate ones) cs → AllLegal true (selects k again cs)
       selects_legal ones [] are s g = tt
       selects_legal ones (c ∷ cs) are s g = (
         refl,
@@ -93,15 +94,15 @@ module _ (test : List ℕ → Bool) where
             (λ h. kernel_legal (selects k again cs) (selects_legal ones cs are.1) (k.commands t + 1) None t (sent.begin_good s (given_to c r) g)) (λ h. selects_legal ones cs are.1 s g),
       )
 
-      presented_legal : (ones : List Ready) (s : S) (card : Activated) → Good s → IsLegal test true (presented k again ones s card)
+      presented_legal : (ones : List PreparedOne) (s : S) (card : Activated) → Good s → IsLegal test true (presented k again ones s card)
       presented_legal ones s card g = (refl, passes.directory, λ r. selects_legal ones (candidates ones (directory r)) (each_candidate ones (directory r)) s g)
 
-    starts_legal : (ones : List Ready) (n : ℕ) → AllLegal false (starts k ones n)
+    starts_legal : (ones : List PreparedOne) (n : ℕ) → AllLegal false (starts k ones n)
     unfolding start_b
-    starts_legal ones zero s g = rounds_legal OneCardOnly (presented k (λ t. Over Finished) ones s) (λ card. presented_legal (λ t. Over Finished) (λ t h. tt) ones s card g) 64 false false
-    starts_legal ones (suc n) s g = rounds_legal OneCardOnly (presented k (starts k ones n) ones s) (λ card. presented_legal (starts k ones n) (starts_legal ones n) ones s card g) 64 false false
+    starts_legal ones zero s g = rounds_legal OneCardOnly (presented k (λ t. Over Finished) ones s) (λ card. presented_legal (λ t. Over Finished) (λ t h. tt) ones s card g) ROUNDS false false
+    starts_legal ones (suc n) s g = rounds_legal OneCardOnly (presented k (starts k ones n) ones s) (λ card. presented_legal (starts k ones n) (starts_legal ones n) ones s card g) ROUNDS false false
 
-  ready_legal : (n : ℕ) (ones : List Ready) (t : Talk) → IsLegal test false t → IsLegal test false (say_ready n ones t)
+  ready_legal : (n : ℕ) (ones : List PreparedOne) (t : Talk) → IsLegal test false t → IsLegal test false (say_ready n ones t)
   ready_legal n [] t h = h
   ready_legal n (one ∷ ones) t h = ready_legal (n + 1) ones t h
 
@@ -145,7 +146,7 @@ script_sends kernel (s ∷ scripts) all =
 abbrev Goes : KernelStep × Option Running → Type 0
 Goes m = Passes is_command m.0 × RunningSends m.1
 
-goes_send : (verdict : Verdict) (steps : List Step) → StepsSend steps → Goes (goes_on verdict steps)
+goes_send : (verdict : Verdict) (steps : List Step) → StepsSend steps → Goes (next_step verdict steps)
 goes_send verdict [] all = (tt, tt)
 goes_send verdict (x ∷ steps) all = all
 
@@ -153,7 +154,7 @@ answers_send : (verdict : Verdict) (steps : List Step) → StepsSend steps → (
 answers_send verdict steps all None last = goes_send verdict steps all
 answers_send verdict steps all (Some x) None = goes_send verdict steps all
 answers_send verdict steps all (Some x) (Some r) =
-    elim (_ == x.want) as (λ (b : Bool). Goes (if b then goes_on verdict steps else (Done x.other, None))) [ true ↦ goes_send verdict steps all | false ↦ (tt, tt) ]
+    elim (_ == x.want) as (λ (b : Bool). Goes (if b then next_step verdict steps else (Done x.other, None))) [ true ↦ goes_send verdict steps all | false ↦ (tt, tt) ]
 
 step_sends : (o : Option Running) → RunningSends o → (last : Option (List ℕ)) → Goes (running_step o last)
 step_sends None all last = (tt, tt)

@@ -1,6 +1,5 @@
 pub mod Answering
 pub mod Bounding
-pub mod Entries
 pub mod Hearing
 pub mod Legal
 pub mod Picking

@@ -3,29 +3,28 @@ use Rattle.std.proofs.Common.{◌≡◌, inl, inr, ℕ, zero, suc, ◌+◌, ◌-
 use Rattle.std.proofs.lemmas.Bool.{lt-ltb}
 use Rattle.std.proofs.lemmas.List.{append-nil}
 use Rattle.ep_base.specs.Air.Heard.{Activated, RoundEnd, Found}
-use Rattle.ep_rules.specs.EntryPoint.Event.{Told, Ending, Said, Tells, Apdu, End}
+use Rattle.ep_rules.specs.EntryPoint.Event.{OwnEvent, Ending, Event as EventData, Tells, Apdu, End}
 use Rattle.ep_rules.specs.EntryPoint.Talk.{Talk, Over, Say, Poll, Command, Close, so_far, IsLegal}
 use Rattle.ep_base.specs.Cards.CardAnswer.{Image, card_answer, deselected}
 use Rattle.ep_base.specs.Poll.Transport.{Reply, Answered, Lost}
 use Rattle.ep_rules.specs.EntryPoint.EventSteps.{EventSteps}
-use Rattle.ep_rules.specs.EntryPoint.TransportRun.{RunEnd, Ended, DeviceFailed, EventsFailed, Left, Leaves, Takes, AfterPresent, AfterReply, AfterClose, Runs, all_taken}
+use Rattle.ep_rules.specs.EntryPoint.TransportRun.{RunEnd, Ended, DeviceFailed, EventsFailed, RunLeft, Leaves, Takes, AfterPresent, AfterReply, AfterClose, Runs, all_taken}
 use Rattle.ep_base.specs.Cards.Images.{Rules, stored}
 use Rattle.ep_rules.specs.EntryPoint.Perfect.{Channel, channel, presents, perfect, at_command}
 use Rattle.ep_base.specs.Cards.Direct.{Direct, direct, direct_reply, presented_anew, image_rules}
 use Rattle.ep_rules.specs.EntryPoint.Bounds.{AtMost, AtMostStarts}
-use Rattle.law_run.specs.ShortAnswers.{IsShortImage}
 use Rattle.law_run.specs.OverPerfect.{channel_after, channel_asked, PerfectBy, OverPerfect}
 use Rattle.law_run.proofs.Hearing.{all_taken_more}
-use Rattle.law_run.proofs.Answering.{card_short}
+use Rattle.law_run.proofs.Answering.{card_number}
 
 abbrev direct_of : Activated → Image → List (ℕ × List ℕ) → ℕ → Direct
 direct_of card image log room = record { card = card; image = image; log = log; room = room }
 
-module _ {E : Type 0} (events : EventSteps E) (left : Left Direct E) where
+module _ {E : Type 0} (events : EventSteps E) (left : RunLeft Direct E) where
   -- What a run from a second place says is said of the run from the first.
-  module _ (xs : List Said) (ys : List (ℕ × List ℕ)) (said : List Said) (commands : List (ℕ × List ℕ)) (image : Image) (d u : Direct) (e f : E)
+  module _ (xs : List EventData) (ys : List (ℕ × List ℕ)) (said : List EventData) (commands : List (ℕ × List ℕ)) (image : Image) (d u : Direct) (e f : E)
       (taken_is : f ≡ all_taken events.take e xs) (card_is : u.card ≡ d.card) (log_is : u.log ≡ d.log ++ ys) (room_is : u.room ≡ d.room) where
-    taken_more : (zs : List Said) → all_taken events.take f zs ≡ all_taken events.take e (xs ++ zs)
+    taken_more : (zs : List EventData) → all_taken events.take f zs ≡ all_taken events.take e (xs ++ zs)
     taken_more zs = ap (λ g. all_taken events.take g zs) taken_is ∙ sym (all_taken_more events.take e xs zs)
 
     log_more : (zs : List (ℕ × List ℕ)) → u.log ++ zs ≡ d.log ++ (ys ++ zs)
@@ -59,7 +58,7 @@ module _ {E : Type 0} (events : EventSteps E) (left : Left Direct E) where
     }
 
   -- The first event is cut.
-  cut_at : (x : Said) (after : List Said) (executed later : List (ℕ × List ℕ)) (image : Image) (d u : Direct) (e l : E) → u.log ≡ d.log ++ executed → events.cut e x l → Leaves left EventsFailed u l
+  cut_at : (x : EventData) (after : List EventData) (executed later : List (ℕ × List ℕ)) (image : Image) (d u : Direct) (e l : E) → u.log ≡ d.log ++ executed → events.cut e x l → Leaves left EventsFailed u l
       → PerfectBy events (x ∷ after) (executed ++ later) image d e left left.ending
   cut_at x after executed later image d u e l log cut is = subst (PerfectBy events (x ∷ after) (executed ++ later) image d e left) (sym is.0) (record {
     before = [];
@@ -82,7 +81,6 @@ module _ {E : Type 0} (events : EventSteps E) (left : Left Direct E) where
       number : d.image.number ≡ n
       image : ch.images n ≡ d.image
       here : found ≡ true → ch.presented ≡ Some n
-      short : IsShortImage d.image
 
     abbrev Outcome : Talk → List RoundEnd → Channel Image → Direct → E → Type 0
     Outcome talk ends ch d e =
@@ -107,7 +105,7 @@ module _ {E : Type 0} (events : EventSteps E) (left : Left Direct E) where
       now = is.1 ∙ (ap (λ i. direct_of d.card i d.log d.room) (sym at.image) ∙ ap (λ l. direct_of d.card (ch.images n) l d.room) (same_log d));
     })
 
-    say_plays : (x : Told) (next : Talk) → Plays next → Plays (Say x next)
+    say_plays : (x : OwnEvent) (next : Talk) → Plays next → Plays (Say x next)
     say_plays x next again found d ch ends m e at legal most room starts (inl (l, cut, is)) =
         let p = perfect one next (replicate ends (Found d.card)) ch in
         cut_at (Tells x) (so_far next p.results).events [] p.commands ((channel_after one next (replicate ends (Found d.card)) ch).images n) d d e l (same_log d) cut is
@@ -125,7 +123,7 @@ module _ {E : Type 0} (events : EventSteps E) (left : Left Direct E) where
         let fewer : AtMostStarts k (next x) = subst (λ j. AtMostStarts j (next x)) (sub-one (suc k)) (starts.1 x) in
         let here : Runs direct events (next x) [] v e left =
         subst (λ w. Runs direct events (next x) [] w e left) is.1 (subst (λ q. AfterPresent direct events (λ x more. Runs direct events (next x) more) q u e left) is.0 runs) in
-        let now : At true v c = record { number = at.number; image = ap deselected at.image; here = λ h. refl; short = at.short } in
+        let now : At true v c = record { number = at.number; image = ap deselected at.image; here = λ h. refl } in
         let q = perfect one (next x) (replicate k x) c in
         lifted [] [] (so_far (next x) q.results).events q.commands ((channel_after one (next x) (replicate k x) c).images n) d v e e refl refl (same_log d) refl left.ending
         (again x true v c k m e now (legal x) (most x) room fewer here)
@@ -172,7 +170,6 @@ module _ {E : Type 0} (events : EventSteps E) (left : Left Direct E) where
         let i = d.image in
         let a = (card_answer i c).0.response in
         let v = direct_of d.card (card_answer i c).1 (d.log ++ (i.number, c) ∷ []) d.room in
-        let short = card_short i c at.short in
         let some : 0 < m = most.0 in
         let test : nat_lt (length d.log) d.room ≡ true = lt-ltb (length d.log) d.room (omega arith) in
         let reply : direct_reply d c ≡ (Answered a, v) = ap (λ (b : Bool). cond b (Answered a, v) (Lost, d)) test in
@@ -180,13 +177,12 @@ module _ {E : Type 0} (events : EventSteps E) (left : Left Direct E) where
         let here : AfterReply direct events c (λ x. Runs direct events (next x) []) (Answered a) v e left =
         subst (λ (x : Reply × Direct). AfterReply direct events c (λ x. Runs direct events (next x) []) x.0 x.1 e left) (sym pair) runs in
         let now : At true v (then_stored ch i c) = record {
-          number = short.1 ∙ at.number;
+          number = card_number i c ∙ at.number;
           image = ap (λ (b : Bool). cond b (card_answer i c).1 (ch.images n)) (eq-eqb n n refl);
           here = λ h. refl;
-          short = short.2;
         } in
         let asked : ByImage c next (replicate ends (Found d.card)) ch d e i =
-        answered_plays c next ends m d ch e a (card_answer i c).1 (then_stored ch i c) (again a) now at.number (subst (λ b. IsLegal (λ c. true) b (next a)) legal.0 (legal.2 a)) (most.1 a short.0) some room (starts a) here in
+        answered_plays c next ends m d ch e a (card_answer i c).1 (then_stored ch i c) (again a) now at.number (subst (λ b. IsLegal (λ c. true) b (next a)) legal.0 (legal.2 a)) (most.1 a) some room (starts a) here in
         subst (ByPresented c next (replicate ends (Found d.card)) ch d e) (sym (at.here legal.0)) (subst (ByImage c next (replicate ends (Found d.card)) ch d e) (sym at.image) asked)
 
     close_plays : (next : Talk) → Plays next → Plays (Close next)
@@ -194,7 +190,7 @@ module _ {E : Type 0} (events : EventSteps E) (left : Left Direct E) where
         let c : Channel Image = record { images = ch.images; presented = None } in
         let here : Runs direct events next [] d e left =
         subst (λ w. Runs direct events next [] w e left) is.1 (subst (λ b. AfterClose direct events (Runs direct events next []) b u e left) is.0 runs) in
-        let now : At false d c = record { number = at.number; image = at.image; here = λ (h : false ≡ true). absurd (let g : ⊥ = cc in g); short = at.short } in
+        let now : At false d c = record { number = at.number; image = at.image; here = λ (h : false ≡ true). absurd (let g : ⊥ = cc in g) } in
         again false d c ends m e now legal most room starts here
 
     plays : (talk : Talk) → Plays talk
@@ -208,5 +204,5 @@ module _ {E : Type 0} (events : EventSteps E) where
   pub perfect_lem : OverPerfect events
   perfect_lem talk d images ends e left carries runs =
       plays events left d.image.number talk false d (channel images) ends carries.commands e
-      (record { number = refl; image = carries.image; here = λ (h : false ≡ true). absurd (let g : ⊥ = cc in g); short = carries.short })
+      (record { number = refl; image = carries.image; here = λ (h : false ≡ true). absurd (let g : ⊥ = cc in g) })
       carries.legal carries.most carries.room carries.enough runs

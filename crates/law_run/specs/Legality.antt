@@ -2,7 +2,7 @@
 use Rattle.std.specs.Prelude.{◌≡◌, ℕ, ◌≤◌, Bool, true, false, List, length}
 use Rattle.std.specs.declared.option.Option.{Option}
 use Rattle.ep_base.specs.Cards.Apdu.{is_command, select, ppse_name}
-use Rattle.ep_rules.specs.EntryPoint.PreProcessing.{Ready}
+use Rattle.ep_rules.specs.EntryPoint.PreProcessing.{PreparedOne}
 use Rattle.ep_rules.specs.EntryPoint.Event.{Activation}
 use Rattle.ep_rules.specs.EntryPoint.Kernel.{KernelStep, Send, Done, KernelSteps, Scripted, scripted}
 use Rattle.ep_rules.specs.EntryPoint.KernelCommands.{SendsCommands, ScriptedSends}
@@ -29,12 +29,12 @@ pub record SelectsPass (test : List ℕ → Bool) : Type 0 where
 abbrev pub Legality : {S : Type 0} → KernelSteps S → Type 1
 Legality {S} k =
     (test : List ℕ → Bool) (Good : S → Type 0) → SendsOnly test Good k → SelectsPass test
-    → (txn_type amount : ℕ) (ones : List Ready) (s : S) → Good s → IsLegal test false (transaction k txn_type amount ones s)
+    → (txn_type amount : ℕ) (ones : List PreparedOne) (s : S) → Good s → IsLegal test false (transaction k txn_type amount ones s)
 
 -- With a kernel that sends commands alone the transaction of Entry Point is a legal talk.
 abbrev pub Legal : {S : Type 0} → KernelSteps S → Type 0
-Legal {S} k = (txn_type amount : ℕ) (ones : List Ready) (s : S) → SendsCommands k s → IsLegal is_command false (transaction k txn_type amount ones s)
+Legal {S} k = (txn_type amount : ℕ) (ones : List PreparedOne) (s : S) → SendsCommands k s → IsLegal is_command false (transaction k txn_type amount ones s)
 
 -- So it is with kernels that follow scripts whose steps send commands alone.
 abbrev pub ScriptedLegal : Type 0
-ScriptedLegal = (txn_type amount : ℕ) (ones : List Ready) (s : Scripted) → ScriptedSends s → IsLegal is_command false (transaction scripted txn_type amount ones s)
+ScriptedLegal = (txn_type amount : ℕ) (ones : List PreparedOne) (s : Scripted) → ScriptedSends s → IsLegal is_command false (transaction scripted txn_type amount ones s)

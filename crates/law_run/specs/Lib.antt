@@ -3,5 +3,4 @@ pub mod Heard
 pub mod Legality
 pub mod OverPerfect
 pub mod ScriptCounts
-pub mod ShortAnswers
 pub mod StartB

@@ -5,11 +5,12 @@
 
 ghost use Rattle.std.specs.Prelude.{ℕ, ◌+◌, ◌*◌, ◌≤◌, List, length, All};
 ghost use Rattle.ep_rules.specs.EntryPoint.Candidates.{candidates};
-ghost use Rattle.ep_base.specs.Objects.Directory.{Entry, directory};
+ghost use Rattle.ep_base.specs.Objects.Directory.{Entry};
+ghost use Rattle.ep_base.specs.declared.limits.TheConstants.{NAMED};
 ghost use Rattle.ep_rules.specs.EntryPoint.Transaction.{transaction};
 ghost use Rattle.ep_rules.specs.EntryPoint.Kernel.{KernelSteps, scripted};
 ghost use Rattle.ep_rules.specs.EntryPoint.KernelCounts.{FallingCounts};
-ghost use Rattle.ep_rules.specs.EntryPoint.PreProcessing.{Ready};
+ghost use Rattle.ep_rules.specs.EntryPoint.PreProcessing.{PreparedOne};
 ghost use Rattle.ep_base.specs.Poll.Transport.{TransportSteps};
 ghost use Rattle.ep_rules.specs.EntryPoint.EventSteps.{EventSteps};
 ghost use Rattle.ep_rules.specs.EntryPoint.Bounds.{AtMost, AtMostStarts, FewApdus, log_bound};
@@ -66,11 +67,11 @@ pub fn transaction_over_the_perfect_channel<S, K: Taker>()
 {}
 
 /// A transaction has at most one Start B more than restarts, and executes at most so many commands as its bound says,
-/// whatever rounds end with and whatever responses of at most 258 bytes come.
+/// whatever rounds end with and whatever responses come.
 pub fn few_commands<S>()
-    ensures commands { (k : KernelSteps S) → FallingCounts k → (txn_type : ℕ) → (amount : ℕ) → (ones : List Ready) → (s : S) →
+    ensures commands { (k : KernelSteps S) → FallingCounts k → (txn_type : ℕ) → (amount : ℕ) → (ones : List PreparedOne) → (s : S) →
         AtMost (log_bound (k.restarts s) (length ones) (k.commands s)) (transaction k txn_type amount ones s) }
-    ensures starts { (k : KernelSteps S) → (txn_type : ℕ) → (amount : ℕ) → (ones : List Ready) → (s : S) →
+    ensures starts { (k : KernelSteps S) → (txn_type : ℕ) → (amount : ℕ) → (ones : List PreparedOne) → (s : S) →
         AtMostStarts (1 + k.restarts s) (transaction k txn_type amount ones s) }
 {}
 
@@ -79,12 +80,11 @@ pub fn few_apdus()
     ensures { FewApdus }
 {}
 
-/// The directory of a response of at most 258 bytes has at most 28 candidates for each Combination, each with a name
-/// of 5 to 16 bytes and a Combination that is allowed.
+/// A directory has at most 28 candidates for each Combination, each with a name of 5 to 16 bytes and a Combination that
+/// is allowed.
 pub fn few_candidates()
-    ensures few { (ones : List Ready) → (response : List ℕ) → length response ≤ 258 →
-        length (candidates ones (directory response)) ≤ 28 * length ones }
-    ensures each { (ones : List Ready) → (entries : List Entry) → All (IsCandidate ones) (candidates ones entries) }
+    ensures few { (ones : List PreparedOne) → (entries : List Entry) → length (candidates ones entries) ≤ NAMED * length ones }
+    ensures each { (ones : List PreparedOne) → (entries : List Entry) → All (IsCandidate ones) (candidates ones entries) }
 {}
 
 /// The counts of kernels that follow scripts fall, and their bound counts scripts, Combinations and steps.

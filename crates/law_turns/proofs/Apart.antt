@@ -8,7 +8,7 @@ use Rattle.ep_claim.specs.Lanes.Exchanges.{field_answers, or_silence}
 use Rattle.ep_claim.specs.Lanes.Order.{Order, next_turn}
 use Rattle.ep_claim.specs.Lanes.LaneText.{Job, Going, Piece, after_text, opens, trace_part, heard_lane, piece_of}
 use Rattle.ep_claim.specs.Lanes.Turning.{IsLane}
-use Rattle.ep_claim.specs.Lanes.WholeRun.{ProbeSteps, open_probe, Run, is_live, asks, run_step, run_after, opening_lanes, opening_text, opened_run}
+use Rattle.ep_claim.specs.Lanes.WholeRun.{ProbeSteps, open_probe, Run, is_live, makes_exchange, run_step, run_after, opening_lanes, opening_text, opened_run}
 use Rattle.ep_claim.specs.Lanes.Pieces.{of_lane, pieces_after}
 use Rattle.ep_claim.specs.Lanes.Telling.{jobs_of}
 use Rattle.ep_claim.specs.Lanes.Apart.{OthersStay, only, LanesApart}
@@ -104,7 +104,7 @@ module _ (traced : Bool) (fsdi lane : ℕ) (jobs : List Job) where
         let at = here n g d in
         alone_stays (ap (λ o. own_turn traced fsdi lane o) at ∙ (ap (λ a. own_by traced fsdi lane g a) x ∙ ap (λ o. piece [] o) (sym at)))
 
-    heard_here : (o : Order) (g : Going) (ask : Ask) → run.lanes lane ≡ Some g → asked_by fsdi g.lane.standing.doing ≡ Some ask → Alone (suc k) (asks traced open_probe fsdi lane o g (Some ask) run)
+    heard_here : (o : Order) (g : Going) (ask : Ask) → run.lanes lane ≡ Some g → asked_by fsdi g.lane.standing.doing ≡ Some ask → Alone (suc k) (makes_exchange traced open_probe fsdi lane o g (Some ask) run)
     heard_here o g ask d x =
         let h = or_silence (field_answers ask g.lane.field).0 in
         let p = piece_of fsdi lane g (heard_lane fsdi g.talk ask h (field_answers ask g.lane.field).1 g.lane) in
@@ -121,7 +121,7 @@ module _ (traced : Bool) (fsdi lane : ℕ) (jobs : List Job) where
     alone_next =
         by_step traced open_probe fsdi count run (λ t after. Alone (suc k) after) over_stays nobody_stays (λ n o g e d x. mute_stays n g d x)
         (λ n o g ask e d x.
-        subst (λ m. Alone (suc k) (asks traced open_probe fsdi m o g (Some ask) run)) (sym (its_turn n g d)) (heard_here o g ask (here n g d) x))
+        subst (λ m. Alone (suc k) (makes_exchange traced open_probe fsdi m o g (Some ask) run)) (sym (its_turn n g d)) (heard_here o g ask (here n g d) x))
 
   alone_after : (count k m : ℕ) (run : Run (Unit {0})) → IsLane count lane → Alone m run → Alone (m + k) (times (run_step traced open_probe fsdi count) k run)
   alone_after count zero m run is alone = let e : m + 0 ≡ m = omega arith in subst (λ n. Alone n run) (sym e) alone

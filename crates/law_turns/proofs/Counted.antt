@@ -2,13 +2,14 @@
 use Rattle.std.proofs.Common.{◌≡◌, ◌⊎◌, ⊎_elim, ℕ, suc, ◌+◌, ◌-◌, ◌*◌, ◌<◌, ◌≤◌, Bool, false, List, [], ◌∷◌, ◌++◌, length, length-append, refl, sym, ap, subst, ◌∙◌, append-nil, arith, Option, Some, None}
 use Rattle.std.specs.Prelude.{if◌then◌else◌}
 use Rattle.std.proofs.lemmas.Bool.Decides.{leb_tells}
+use Rattle.ep_base.specs.declared.limits.TheConstants.{COMMAND, COMMAND_EXCHANGES, ROUND_EXCHANGES, ROUNDS, START_EXCHANGES}
 use Rattle.ep_base.specs.Air.Heard.{Heard, RoundEnd, Empty, Collision, Unsupported, Broken, Found}
 use Rattle.ep_base.specs.Air.Heard as rounds
 use Rattle.ep_base.specs.Cards.Apdu.{is_command}
 use Rattle.ep_base.specs.Air.Medium.{untold}
 use Rattle.ep_base.specs.Poll.Round.{Stage, round_hears}
 use Rattle.ep_base.specs.Link.Block.{ReadBlock, same}
-use Rattle.ep_base.specs.Link.ReaderEnd.{Reader, Turn, Asks, Gives, Spends, Breaks, reader_hears, begin}
+use Rattle.ep_base.specs.Link.ReaderEnd.{Reader, ReaderTurn, Asks, Gives, Spends, Breaks, reader_hears, begin}
 use Rattle.ep_base.specs.Link.LinkFrames.{heard_block}
 use Rattle.ep_base.specs.Poll.Radio.{OpenLink}
 use Rattle.ep_rules.specs.EntryPoint.Talk.{Talk, Over, Say, Poll, Command, Close, Result, Round, Response, Closed, so_far, is_found, IsLegal}
@@ -20,14 +21,14 @@ use Rattle.law_wire.proofs.Limits.{images_keep}
 use Rattle.law_round.proofs.Counting.{left, Leveled, Leaves, leaves, one_left}
 use Rattle.law_round.proofs.Sizing.{round_sized}
 use Rattle.ep_claim.specs.Lanes.Standing.{Standing, Doing, Rounds, Carries, Closing, Stopped, Astray, doing_by, standing, started, link_by, after_stage, after_turn, hears_by, after_hearing}
-use Rattle.ep_claim.specs.Lanes.Counting.{rounds_left, AtMostRounds, after_all}
+use Rattle.ep_claim.specs.Lanes.Counting.{rounds_left, AtMostRounds, after_hearings}
 use Rattle.ep_claim.specs.Promise.Counts.{Counts, no_counts, count_round, count_asked, count_given, count_turn, count_closing, counted, all_counted, NextFits, BoundedCount}
-use Rattle.law_turns.proofs.Counting.{IsShort, reader_short, IsReady, HasSize, link_ready, held, Sizes, sizes_next, end_sized, Wishes, wish_next, most, round_cost, rounds_fit}
+use Rattle.law_turns.proofs.Counting.{IsReady, HasSize, link_ready, held, Sizes, sizes_next, end_sized, Wishes, wish_next, most, round_cost, rounds_fit}
 use Rattle.law_turns.proofs.Toggling.{Stays, Moves, Goes_on, reader_goes, since_now, toggles_now, after_more, toggles_more}
 
 module _ (fsdi : ℕ) (start : Talk) (commands starts : ℕ) where
   abbrev total : ℕ
-  total = 279 * 21 * commands + 705 * starts
+  total = COMMAND_EXCHANGES * commands + START_EXCHANGES * starts
 
   -- what the rest of the talk may still take
   record Rests (results : List Result) (rest : Talk) (found : Bool) (n m few : ℕ) (c : Counts) : Type 0 where
@@ -35,11 +36,11 @@ module _ (fsdi : ℕ) (start : Talk) (commands starts : ℕ) where
     legal : IsLegal is_command found rest
     few_commands : AtMost n rest
     few_starts : AtMostStarts m rest
-    few_rounds : AtMostRounds 64 few rest
-    fits : few ≤ 64
+    few_rounds : AtMostRounds ROUNDS few rest
+    fits : few ≤ ROUNDS
     commands_fit : c.commands + n ≤ commands
     starts_fit : c.starts + m ≤ starts
-    rounds_fit : c.rounds + few ≤ 64
+    rounds_fit : c.rounds + few ≤ ROUNDS
 
   -- the link was just opened, or its last exchange toggled
   abbrev Fresh : Option OpenLink → Counts → Type 0
@@ -58,11 +59,11 @@ module _ (fsdi : ℕ) (start : Talk) (commands starts : ℕ) where
     rests : Rests results (Poll next) found n m few c
     more : ℕ
     enough : left (rounds.Goes stage) ≤ more
-    in_round : more + c.round ≤ 11
+    in_round : more + c.round ≤ ROUND_EXCHANGES
     sizes : Sizes fsdi start more (rounds.Goes stage)
     leveled : Leveled (rounds.Goes stage)
     toggles : c.toggles ≡ 0
-    cost : c.exchanges + more + (most fsdi start n m few + held link - 11) ≤ total
+    cost : c.exchanges + more + (most fsdi start n m few + held link - ROUND_EXCHANGES) ≤ total
 
   record InCommand (results : List Result) (l : OpenLink) (c : Counts) : Type 0 where
     command : List ℕ
@@ -80,7 +81,7 @@ module _ (fsdi : ℕ) (start : Talk) (commands starts : ℕ) where
     toggles : toggles_in l.set.frames.reader heard (Asks (begin l.set.frames.card command reader)) ≡ c.toggles
     since : c.since ≡ length l.reader.since
     round : c.round ≡ 0
-    cost : c.exchanges + (279 * 21 - length heard) + most fsdi start (n - 1) m few + 1 ≤ total
+    cost : c.exchanges + (COMMAND_EXCHANGES - length heard) + most fsdi start (n - 1) m few + 1 ≤ total
 
   record InClosing (results : List Result) (c : Counts) : Type 0 where
     next : Talk
@@ -120,20 +121,20 @@ module _ (fsdi : ℕ) (start : Talk) (commands starts : ℕ) where
     abbrev frame : ℕ
     frame = l.set.frames.reader
 
-    abbrev begun : Turn
+    abbrev begun : ReaderTurn
     begun = Asks (begin l.set.frames.card x.command x.reader)
 
-    short : length x.command ≤ 261
+    short : length x.command ≤ COMMAND
     short = (images_keep (λ card. 0)).commands x.command x.rests.legal.1
 
     some_command : 0 < x.n
     some_command = x.rests.few_commands.0
 
-    few_heard : length x.heard < 279 * 21
+    few_heard : length x.heard < COMMAND_EXCHANGES
     few_heard =
         ⊎_elim
         (λ h. absurd (subst IsEnded x.asks (command_ends l.set.frames.card frame x.command x.reader x.heard x.fresh x.wide short h.1)))
-        (λ h. omega (arith, h.1)) (leb_tells (279 * 21) (length x.heard))
+        (λ h. omega (arith, h.1)) (leb_tells COMMAND_EXCHANGES (length x.heard))
 
     command_fits : NextFits commands starts (Carries l) c
     command_fits =
@@ -184,7 +185,7 @@ module _ (fsdi : ℕ) (start : Talk) (commands starts : ℕ) where
         few = b.few;
         link = link;
         rests = b.rests;
-        more = 11;
+        more = ROUND_EXCHANGES;
         enough = omega arith;
         in_round = omega (arith, b.round);
         sizes = λ card x. (round_sized untold fsdi tt tt card x).0;
@@ -285,7 +286,7 @@ module _ (fsdi : ℕ) (start : Talk) (commands starts : ℕ) where
         found = is_found e;
         n = x.n;
         m = starts_left x.m e;
-        few = rounds_left 64 x.few e;
+        few = rounds_left ROUNDS x.few e;
         rests = record {
           wishes = wish_next fsdi start results (Round e) (Poll x.next) (x.next e) x.rests.wishes (λ more. refl);
           legal = x.rests.legal e;
@@ -311,7 +312,7 @@ module _ (fsdi : ℕ) (start : Talk) (commands starts : ℕ) where
       starts_by Broken some = x.rests.starts_fit
       starts_by (Found card) some = omega (arith, some, x.rests.starts_fit)
 
-      rounds_by : (d : RoundEnd) → 0 < x.few → (count_round (rounds.Ends d) c).rounds + rounds_left 64 x.few d ≤ 64
+      rounds_by : (d : RoundEnd) → 0 < x.few → (count_round (rounds.Ends d) c).rounds + rounds_left ROUNDS x.few d ≤ ROUNDS
       rounds_by Empty any = omega (arith, any, x.rests.rounds_fit)
       rounds_by Collision any = omega (arith, any, x.rests.rounds_fit)
       rounds_by Unsupported any = omega (arith, any, x.rests.rounds_fit)
@@ -325,7 +326,7 @@ module _ (fsdi : ℕ) (start : Talk) (commands starts : ℕ) where
       fresh_by Broken = tt
       fresh_by (Found card) = refl
 
-  after_stage_holds : (results : List Result) (stage : Stage) (c : Counts) (x : InRound results stage c) (k : ℕ) → x.more ≡ suc k → (turn : rounds.Turn Stage)
+  after_stage_holds : (results : List Result) (stage : Stage) (c : Counts) (x : InRound results stage c) (k : ℕ) → x.more ≡ suc k → (turn : rounds.RoundTurn Stage)
       → Leaves (left (rounds.Goes stage) - 1) turn → Sizes fsdi start k turn → HoldsAt (after_stage fsdi start results turn) (count_round turn c)
   after_stage_holds results stage c x k is (rounds.Goes now) leaves_so sizes = record {
     next = x.next;
@@ -370,7 +371,7 @@ module _ (fsdi : ℕ) (start : Talk) (commands starts : ℕ) where
     abbrev size : ℕ
     size = l.set.frames.reader
 
-    abbrev first : Turn
+    abbrev first : ReaderTurn
     first = Asks (begin l.set.frames.card x.command x.reader)
 
     one_more : length (x.heard ++ h ∷ []) ≡ length x.heard + 1
@@ -412,9 +413,9 @@ module _ (fsdi : ℕ) (start : Talk) (commands starts : ℕ) where
           cost = omega (arith, x.cost, more, few);
         }
 
-    given : (a : List ℕ) (q : Reader) → reader_hears size l.reader h ≡ Gives a q → length a ≤ 258 → Moves l.reader q
+    given : (a : List ℕ) (q : Reader) → reader_hears size l.reader h ≡ Gives a q → Moves l.reader q
         → Between (results ++ Response a ∷ []) (x.next a) (Some (record { set = l.set; reader = q })) (count_given l.reader q c)
-    given a q is brief moves =
+    given a q is moves =
         let some = some_command results l c x in
         let few = few_heard results l c x in
         record {
@@ -425,7 +426,7 @@ module _ (fsdi : ℕ) (start : Talk) (commands starts : ℕ) where
           rests = record {
             wishes = wish_next fsdi start results (Response a) (Command x.command x.next) (x.next a) x.rests.wishes (λ more. refl);
             legal = x.rests.legal.2 a;
-            few_commands = x.rests.few_commands.1 a brief;
+            few_commands = x.rests.few_commands.1 a;
             few_starts = x.rests.few_starts a;
             few_rounds = x.rests.few_rounds a;
             fits = x.rests.fits;
@@ -440,12 +441,12 @@ module _ (fsdi : ℕ) (start : Talk) (commands starts : ℕ) where
           cost = omega (arith, x.cost, few);
         }
 
-    turn_holds : (turn : Turn) → reader_hears size l.reader h ≡ turn → IsShort turn → Goes_on l.reader turn → HoldsAt (after_turn start results l.set turn) (count_turn l.reader turn c)
-    turn_holds (Asks q) is brief goes = asked_on q is goes
-    turn_holds (Gives a q) is brief goes =
-        stands (results ++ Response a ∷ []) (x.next a) (Some (record { set = l.set; reader = q })) (count_given l.reader q c) (given a q is brief goes)
-    turn_holds (Spends q) is brief goes = let few = few_heard results l c x in omega (arith, x.cost, few)
-    turn_holds (Breaks q) is brief goes = let few = few_heard results l c x in omega (arith, x.cost, few)
+    turn_holds : (turn : ReaderTurn) → reader_hears size l.reader h ≡ turn → Goes_on l.reader turn → HoldsAt (after_turn start results l.set turn) (count_turn l.reader turn c)
+    turn_holds (Asks q) is goes = asked_on q is goes
+    turn_holds (Gives a q) is goes =
+        stands (results ++ Response a ∷ []) (x.next a) (Some (record { set = l.set; reader = q })) (count_given l.reader q c) (given a q is goes)
+    turn_holds (Spends q) is goes = let few = few_heard results l c x in omega (arith, x.cost, few)
+    turn_holds (Breaks q) is goes = let few = few_heard results l c x in omega (arith, x.cost, few)
 
   -- ---- the closing of a link
 
@@ -482,12 +483,12 @@ module _ (fsdi : ℕ) (start : Talk) (commands starts : ℕ) where
   heard_holds results (Carries l) c h x =
       let block = heard_block l.set.kind l.set.frames.reader h in
       let turn = reader_hears l.set.frames.reader l.reader block in
-      turn_holds results l c x block turn refl (reader_short l.set.frames.reader l.reader block) (reader_goes l.set.frames.reader l.reader block)
+      turn_holds results l c x block turn refl (reader_goes l.set.frames.reader l.reader block)
   heard_holds results (Closing l) c h x = closing_holds results c x
   heard_holds results (Stopped ending) c h x = x
   heard_holds results Astray c h x = x
 
-  all_hold : (hs : List Heard) (s : Standing) (c : Counts) → HoldsAt s c → NextFits commands starts (after_all fsdi start hs s).doing (all_counted fsdi start hs s c)
+  all_hold : (hs : List Heard) (s : Standing) (c : Counts) → HoldsAt s c → NextFits commands starts (after_hearings fsdi start hs s).doing (all_counted fsdi start hs s c)
   all_hold [] s c x = next_fits s.results s.doing c x
   all_hold (h ∷ hs) s c x = all_hold hs (after_hearing fsdi start h s) (counted s.doing h c) (heard_holds s.results s.doing c h x)
 
@@ -499,7 +500,7 @@ bounded_count_law fsdi talk commands starts b = λ hearings.
       found = false;
       n = commands;
       m = starts;
-      few = 64;
+      few = ROUNDS;
       rests = record {
         wishes = λ more. refl;
         legal = b.legal;

@@ -1,15 +1,15 @@
 -- A transaction is over after so many exchanges, whatever is heard.
-use Rattle.std.proofs.Common.{◌≡◌, ℕ, zero, suc, ◌+◌, ◌-◌, ◌*◌, ◌<◌, ◌≤◌, nat_le, nat_lt, Bool, true, false, List, [], ◌∷◌, ◌++◌, length, take, drop, length-append, length-drop, refl, sym, ap, subst, ◌∙◌, append_assoc, append-nil, arith, Option, Some, None}
+use Rattle.std.proofs.Common.{◌≡◌, ℕ, zero, suc, ◌+◌, ◌-◌, ◌*◌, ◌<◌, ◌≤◌, Bool, true, false, List, [], ◌∷◌, ◌++◌, length, take, drop, length-append, length-drop, refl, sym, ap, subst, ◌∙◌, append_assoc, append-nil, arith, Option, Some, None}
 use Rattle.std.proofs.lemmas.List.{take-append-drop, length-take-le}
-use Rattle.std.proofs.lemmas.Bool.Decides.{nat_tests}
+use Rattle.ep_base.specs.declared.limits.TheConstants.{COMMAND, COMMAND_EXCHANGES, ROUND_EXCHANGES, ROUNDS, START_EXCHANGES}
 use Rattle.ep_base.specs.Air.Heard.{Activated, Ask, Heard, RoundEnd, Empty, Collision, Unsupported, Broken, Found}
 use Rattle.ep_base.specs.Air.Heard as rounds
 use Rattle.ep_base.specs.Cards.Apdu.{is_command}
 use Rattle.ep_base.specs.Air.Medium.{untold, ExchangesBy}
 use Rattle.ep_base.specs.Poll.Polling.{Plays}
 use Rattle.ep_base.specs.Poll.Round.{Stage, Waking, round_asks, round_hears}
-use Rattle.ep_base.specs.Link.Block.{I, RAck, RNak, Deselect, Wtx, ReadBlock, Bad, Junk, Intact, same, is_bad, is_wtx, is_nak, count}
-use Rattle.ep_base.specs.Link.ReaderEnd.{Phase, Idle, Sending, Receiving, Reader, Turn, Asks, Gives, Spends, Breaks, asked, kept, is_fit, takes, appended, on_i, on_ack, reader_hears, begin}
+use Rattle.ep_base.specs.Link.Block.{ReadBlock}
+use Rattle.ep_base.specs.Link.ReaderEnd.{Reader, ReaderTurn, Asks, Gives, Spends, Breaks, begin}
 use Rattle.ep_base.specs.Link.LinkFrames.{LinkSetting, heard_block}
 use Rattle.ep_base.specs.Link.Carry.{turn_on}
 use Rattle.ep_base.specs.Poll.Radio.{OpenLink}
@@ -21,50 +21,10 @@ use Rattle.law_link.specs.Bounds as links
 use Rattle.law_link.proofs.Bounding.{bounded_toggles, command_ends}
 use Rattle.ep_rules.specs.EntryPoint.Bounds.{AtMost, starts_left, AtMostStarts}
 use Rattle.law_wire.proofs.Limits.{images_keep}
-use Rattle.law_round.proofs.Presenting.{either, when}
 use Rattle.law_round.proofs.Counting.{left, Leveled, leaves, one_left}
 use Rattle.law_round.proofs.Sizing.{round_sized}
 use Rattle.ep_claim.specs.Lanes.Standing.{Standing, Doing, Rounds, Carries, Closing, Stopped, Astray, doing_by, standing, started, asked_by, link_by, after_stage, after_turn, after_hearing}
-use Rattle.ep_claim.specs.Lanes.Counting.{rounds_left, AtMostRounds, after_all, IsOverAfter, EveryExchangeCounts}
-
--- ---- a response that is given is short
-
-abbrev pub IsShort : Turn → Type 0
-IsShort (Asks r) = Unit {0}
-IsShort (Gives response r) = length response ≤ 258
-IsShort (Spends r) = Unit {0}
-IsShort (Breaks r) = Unit {0}
-
-fit_short : (frame : ℕ) (got inf : List ℕ) → is_fit frame got false inf ≡ true → length (got ++ inf) ≤ 258
-fit_short frame got inf e = grind (arith, nat_tests)
-
-takes_short : (frame : ℕ) (got : List ℕ) (ch : Bool) (inf : List ℕ) (r : Reader) → IsShort (takes frame got ch inf r)
-takes_short frame got true inf r = either IsShort (is_fit frame got true inf) (appended got true inf r) (Breaks r) tt tt
-takes_short frame got false inf r =
-    when IsShort (is_fit frame got false inf) (appended got false inf r) (Breaks r) (λ e. fit_short frame got inf e) (λ e. tt)
-
-i_short : (frame : ℕ) (phase : Phase) (ch : Bool) (inf : List ℕ) (r : Reader) → IsShort (on_i frame phase ch inf r)
-i_short frame Idle ch inf r = tt
-i_short frame (Sending part []) ch inf r = takes_short frame [] ch inf r
-i_short frame (Sending part (next ∷ left)) ch inf r = tt
-i_short frame (Receiving got) ch inf r = takes_short frame got ch inf r
-
-ack_short : (phase : Phase) (r : Reader) → IsShort (on_ack phase r)
-ack_short Idle r = tt
-ack_short (Sending part []) r = tt
-ack_short (Sending part (next ∷ left)) r = tt
-ack_short (Receiving got) r = tt
-
-pub reader_short : (frame : ℕ) (r : Reader) (h : ReadBlock) → IsShort (reader_hears frame r h)
-reader_short frame r Bad = either IsShort (nat_lt (count is_bad (kept Bad r).since) 3) (Asks (kept Bad r)) (Spends (kept Bad r)) tt tt
-reader_short frame r Junk = tt
-reader_short frame r (Intact (I k ch inf)) = either IsShort (same k r.number) (on_i frame r.phase ch inf r) (Breaks r) (i_short frame r.phase ch inf r) tt
-reader_short frame r (Intact (RAck k)) =
-    either IsShort (same k r.number) (on_ack r.phase r) _ (ack_short r.phase r) (either IsShort (is_nak (asked r)) (Asks (kept (Intact (RAck k)) r)) (Breaks r) tt tt)
-reader_short frame r (Intact (RNak k)) = tt
-reader_short frame r (Intact Deselect) = tt
-reader_short frame r (Intact (Wtx p m)) =
-    either IsShort (nat_le (count is_wtx (Intact (Wtx p m) ∷ r.since)) 16) (Asks (kept (Intact (Wtx p m)) r)) (Breaks r) tt tt
+use Rattle.ep_claim.specs.Lanes.Counting.{rounds_left, AtMostRounds, after_hearings, IsOverAfter, EveryExchangeCounts}
 
 -- ---- a link that is ready for a command
 
@@ -96,7 +56,7 @@ module _ (fsdi : ℕ) (start : Talk) where
   OverIn k s = IsOverAfter fsdi start k s
 
   abbrev Quiet : List Heard → Standing → Type 0
-  Quiet hs s = asked_by fsdi (after_all fsdi start hs s).doing ≡ None
+  Quiet hs s = asked_by fsdi (after_hearings fsdi start hs s).doing ≡ None
 
   -- ---- counts
 
@@ -128,7 +88,7 @@ module _ (fsdi : ℕ) (start : Talk) where
   any_exchange false ask h = tt
 
   -- the cards with which a round may end from here have a lawful frame size
-  abbrev pub Sizes : ℕ → rounds.Turn Stage → Type 0
+  abbrev pub Sizes : ℕ → rounds.RoundTurn Stage → Type 0
   Sizes n turn = (card : Activated) → Plays untold fsdi n turn tt (Some (Found card)) tt → 16 ≤ card.fsc
 
   pub sizes_next : (n : ℕ) (stage : Stage) (h : Heard) → Sizes (suc n) (rounds.Goes stage) → Sizes n (round_hears stage h)
@@ -148,7 +108,7 @@ module _ (fsdi : ℕ) (start : Talk) where
   end_sized n (Found card) sizes = sizes card (at_end n (Found card))
 
   module _ (results : List Result) (k : ℕ) (next : (e : RoundEnd) → HasSize e → OverIn k (standing start (results ++ Round e ∷ []) (link_by fsdi e))) where
-    stage_over : (n m : ℕ) (turn : rounds.Turn Stage) → left turn ≤ n → n + k ≤ m → Sizes n turn
+    stage_over : (n m : ℕ) (turn : rounds.RoundTurn Stage) → left turn ≤ n → n + k ≤ m → Sizes n turn
         → ((stage : Stage) → left (rounds.Goes stage) ≤ n → Sizes n (rounds.Goes stage) → Leveled (rounds.Goes stage) → OverIn m (record { results = results; doing = Rounds stage }))
         → Leveled turn → OverIn m (after_stage fsdi start results turn)
     stage_over n m (rounds.Goes stage) few le sizes again leveled = again stage few sizes leveled
@@ -165,13 +125,13 @@ module _ (fsdi : ℕ) (start : Talk) where
         stage_over n (n + k) (round_hears stage h) (omega (arith, x.1, few)) (omega arith) (sizes_next n stage h sizes)
         (λ now fewer fit level. round_over n (n + k) now fewer (omega arith) fit level) x.0)
 
-    polls_over : (m : ℕ) → 11 + k ≤ m → OverIn m (record { results = results; doing = Rounds Waking })
-    polls_over m le = round_over 11 m Waking (omega arith) le (λ card x. (round_sized untold fsdi tt tt card x).0) tt
+    polls_over : (m : ℕ) → ROUND_EXCHANGES + k ≤ m → OverIn m (record { results = results; doing = Rounds Waking })
+    polls_over m le = round_over ROUND_EXCHANGES m Waking (omega arith) le (λ card x. (round_sized untold fsdi tt tt card x).0) tt
 
   -- ---- a command
 
   module _ (results : List Result) (k : ℕ) (set : LinkSetting)
-      (next : (a : List ℕ) (q : Reader) → length a ≤ 258 → q.since ≡ [] → OverIn k (standing start (results ++ Response a ∷ []) (Some (record { set = set; reader = q })))) where
+      (next : (a : List ℕ) (q : Reader) → q.since ≡ [] → OverIn k (standing start (results ++ Response a ∷ []) (Some (record { set = set; reader = q })))) where
     abbrev frame : ℕ
     frame = set.frames.reader
 
@@ -183,22 +143,21 @@ module _ (fsdi : ℕ) (start : Talk) where
     blocks_length [] = refl
     blocks_length (h ∷ hs) = ap suc (blocks_length hs)
 
-    settles : (hs more : List Heard) (t : Turn) → IsShort t → IsEnded (links.after_all frame (blocks hs) t) → IsBounded (links.after_all frame (blocks hs) t) → k ≤ length more
+    settles : (hs more : List Heard) (t : ReaderTurn) → IsEnded (links.after_all frame (blocks hs) t) → IsBounded (links.after_all frame (blocks hs) t) → k ≤ length more
         → Quiet (hs ++ more) (after_turn start results set t)
-    settles [] more (Asks r) short ended bounded many = absurd ended
-    settles [] more (Gives a q) short ended bounded many = next a q short bounded more many
-    settles [] more (Spends r) short ended bounded many = stays more results (Stopped AtLink) refl
-    settles [] more (Breaks r) short ended bounded many = stays more results (Stopped AtBreach) refl
-    settles (h ∷ hs) more (Asks r) short ended bounded many =
-        settles hs more (turn_on set r h) (reader_short frame r (heard_block set.kind frame h)) ended bounded many
-    settles (h ∷ hs) more (Gives a q) short ended bounded many = next a q short bounded (h ∷ (hs ++ more)) (omega (arith, many, length-append hs more))
-    settles (h ∷ hs) more (Spends r) short ended bounded many = stays (h ∷ (hs ++ more)) results (Stopped AtLink) refl
-    settles (h ∷ hs) more (Breaks r) short ended bounded many = stays (h ∷ (hs ++ more)) results (Stopped AtBreach) refl
+    settles [] more (Asks r) ended bounded many = absurd ended
+    settles [] more (Gives a q) ended bounded many = next a q bounded more many
+    settles [] more (Spends r) ended bounded many = stays more results (Stopped AtLink) refl
+    settles [] more (Breaks r) ended bounded many = stays more results (Stopped AtBreach) refl
+    settles (h ∷ hs) more (Asks r) ended bounded many = settles hs more (turn_on set r h) ended bounded many
+    settles (h ∷ hs) more (Gives a q) ended bounded many = next a q bounded (h ∷ (hs ++ more)) (omega (arith, many, length-append hs more))
+    settles (h ∷ hs) more (Spends r) ended bounded many = stays (h ∷ (hs ++ more)) results (Stopped AtLink) refl
+    settles (h ∷ hs) more (Breaks r) ended bounded many = stays (h ∷ (hs ++ more)) results (Stopped AtBreach) refl
 
-    command_over : (c : List ℕ) (r : Reader) (m : ℕ) → r.since ≡ [] → 16 ≤ set.frames.card → length c ≤ 261 → 279 * 21 + k ≤ m
+    command_over : (c : List ℕ) (r : Reader) (m : ℕ) → r.since ≡ [] → 16 ≤ set.frames.card → length c ≤ COMMAND → COMMAND_EXCHANGES + k ≤ m
         → OverIn m (after_turn start results set (Asks (begin set.frames.card c r)))
     command_over c r m fresh wide short le = λ hs many.
-        let n = 279 * 21 in
+        let n = COMMAND_EXCHANGES in
         let now = take n hs in
         let more = drop n hs in
         let begun = begin set.frames.card c r in
@@ -207,7 +166,7 @@ module _ (fsdi : ℕ) (start : Talk) where
         let read : length (blocks now) ≡ length now = blocks_length now in
         let ended : IsEnded (links.after_all frame (blocks now) (Asks begun)) = command_ends set.frames.card frame c r (blocks now) fresh wide short (omega (arith, size, read)) in
         let bounded : IsBounded (links.after_all frame (blocks now) (Asks begun)) = bounded_toggles set.frames.card frame c r (blocks now) fresh in
-        subst (λ l. Quiet l (after_turn start results set (Asks begun))) (take-append-drop n hs) (settles now more (Asks begun) tt ended bounded (omega (arith, rest, le, many)))
+        subst (λ l. Quiet l (after_turn start results set (Asks begun))) (take-append-drop n hs) (settles now more (Asks begun) ended bounded (omega (arith, rest, le, many)))
 
   -- ---- the talk
 
@@ -224,11 +183,11 @@ module _ (fsdi : ℕ) (start : Talk) where
 
   -- the exchanges of so many commands and Start Bs, with so many rounds left of the first
   abbrev pub most : (n m left : ℕ) → ℕ
-  most n m left = 279 * 21 * n + (705 * m - 11 * (64 - left))
+  most n m left = COMMAND_EXCHANGES * n + (START_EXCHANGES * m - ROUND_EXCHANGES * (ROUNDS - left))
 
   abbrev Ends : Talk → Type 0
   Ends rest = (n m left : ℕ) (found : Bool) (results : List Result) (link : Option OpenLink)
-      → Wishes results rest → IsReady link → IsLegal is_command found rest → AtMost n rest → AtMostStarts m rest → AtMostRounds 64 left rest → left ≤ 64
+      → Wishes results rest → IsReady link → IsLegal is_command found rest → AtMost n rest → AtMostStarts m rest → AtMostRounds ROUNDS left rest → left ≤ ROUNDS
       → OverIn (most n m left + held link) (standing start results link)
 
   over_ends : (e : Ending) → Ends (Over e)
@@ -236,15 +195,15 @@ module _ (fsdi : ℕ) (start : Talk) where
       let k = most n m left + held link in
       by_wish k results (Over e) link w (over_now k (record { results = results; doing = doing_by (so_far (Over e) []).wish link }) refl)
 
-  pub round_cost : (n m left : ℕ) (link : Option OpenLink) (e : RoundEnd) → 0 < m → 0 < left → left ≤ 64
-      → most n (starts_left m e) (rounds_left 64 left e) + held (link_by fsdi e) + 11 ≤ most n m left + held link
+  pub round_cost : (n m left : ℕ) (link : Option OpenLink) (e : RoundEnd) → 0 < m → 0 < left → left ≤ ROUNDS
+      → most n (starts_left m e) (rounds_left ROUNDS left e) + held (link_by fsdi e) + ROUND_EXCHANGES ≤ most n m left + held link
   round_cost n m left link Empty some any le = omega (arith, some, any, le)
   round_cost n m left link Collision some any le = omega (arith, some, any, le)
   round_cost n m left link Unsupported some any le = omega (arith, some, any, le)
   round_cost n m left link Broken some any le = omega (arith, some, any, le)
   round_cost n m left link (Found card) some any le = omega (arith, some, any, le)
 
-  pub rounds_fit : (left : ℕ) (e : RoundEnd) → left ≤ 64 → rounds_left 64 left e ≤ 64
+  pub rounds_fit : (left : ℕ) (e : RoundEnd) → left ≤ ROUNDS → rounds_left ROUNDS left e ≤ ROUNDS
   rounds_fit left Empty le = omega (arith, le)
   rounds_fit left Collision le = omega (arith, le)
   rounds_fit left Unsupported le = omega (arith, le)
@@ -254,19 +213,19 @@ module _ (fsdi : ℕ) (start : Talk) where
   poll_ends : (next : RoundEnd → Talk) → ((e : RoundEnd) → Ends (next e)) → Ends (Poll next)
   poll_ends next again n m left found results link w ready legal few starts rounds le =
       let total = most n m left + held link in
-      let k = total - 11 in
+      let k = total - ROUND_EXCHANGES in
       let some = round_cost n m left link Empty starts.0 rounds.0 le in
       by_wish total results (Poll next) link w
       (polls_over results k
       (λ e size.
       let now = results ++ Round e ∷ [] in
       let cost = round_cost n m left link e starts.0 rounds.0 le in
-      over_more (most n (starts_left m e) (rounds_left 64 left e) + held (link_by fsdi e)) k (standing start now (link_by fsdi e)) (omega (arith, cost))
-      (again e n (starts_left m e) (rounds_left 64 left e) (is_found e) now (link_by fsdi e) (wish_next results (Round e) (Poll next) (next e) w (λ more. refl)) (link_ready fsdi e size) (legal e) (few e)
+      over_more (most n (starts_left m e) (rounds_left ROUNDS left e) + held (link_by fsdi e)) k (standing start now (link_by fsdi e)) (omega (arith, cost))
+      (again e n (starts_left m e) (rounds_left ROUNDS left e) (is_found e) now (link_by fsdi e) (wish_next results (Round e) (Poll next) (next e) w (λ more. refl)) (link_ready fsdi e size) (legal e) (few e)
       (starts.1 e) (rounds.1 e) (rounds_fit left e le))) total (omega (arith, some)))
 
   close_over : (next : Talk) → Ends next → (n m left : ℕ) (results : List Result) (link : Option OpenLink) → Wishes results (Close next) → IsLegal is_command false next → AtMost n next
-      → AtMostStarts m next → AtMostRounds 64 left next → left ≤ 64 → OverIn (most n m left + held link) (record { results = results; doing = doing_by (so_far (Close next) []).wish link })
+      → AtMostStarts m next → AtMostRounds ROUNDS left next → left ≤ ROUNDS → OverIn (most n m left + held link) (record { results = results; doing = doing_by (so_far (Close next) []).wish link })
   close_over next again n m left results None w legal few starts rounds le = over_now (most n m left + 0) (record { results = results; doing = Astray }) refl
   close_over next again n m left results (Some l) w legal few starts rounds le =
       let k = most n m left + 0 in
@@ -278,17 +237,17 @@ module _ (fsdi : ℕ) (start : Talk) where
       by_wish (most n m left + held link) results (Close next) link w (close_over next again n m left results link w legal few starts rounds le)
 
   command_by : (c : List ℕ) (next : List ℕ → Talk) → ((a : List ℕ) → Ends (next a)) → (n m left : ℕ) (found : Bool) (results : List Result) (link : Option OpenLink) → Wishes results (Command c next)
-      → IsReady link → is_command c ≡ true → ((a : List ℕ) → IsLegal is_command found (next a)) → AtMost n (Command c next) → AtMostStarts m (Command c next) → AtMostRounds 64 left (Command c next)
-      → left ≤ 64 → OverIn (most n m left + held link) (record { results = results; doing = doing_by (so_far (Command c next) []).wish link })
+      → IsReady link → is_command c ≡ true → ((a : List ℕ) → IsLegal is_command found (next a)) → AtMost n (Command c next) → AtMostStarts m (Command c next) → AtMostRounds ROUNDS left (Command c next)
+      → left ≤ ROUNDS → OverIn (most n m left + held link) (record { results = results; doing = doing_by (so_far (Command c next) []).wish link })
   command_by c next again n m left found results None w ready form legal few starts rounds le = over_now (most n m left + 0) (record { results = results; doing = Astray }) refl
   command_by c next again n m left found results (Some l) w ready form legal few starts rounds le =
       let k = most (n - 1) m left + 1 in
       let some : 0 < n = few.0 in
-      let short : length c ≤ 261 = (images_keep (λ card. 0)).commands c form in
+      let short : length c ≤ COMMAND = (images_keep (λ card. 0)).commands c form in
       command_over results k l.set
-      (λ a q brief fresh.
+      (λ a q fresh.
       again a (n - 1) m left found (results ++ Response a ∷ []) (Some (record { set = l.set; reader = q })) (wish_next results (Response a) (Command c next) (next a) w (λ more. refl))
-      (fresh, ready.1) (legal a) (few.1 a brief) (starts a) (rounds a) le) c l.reader (most n m left + 1) ready.0 ready.1 short (omega (arith, some))
+      (fresh, ready.1) (legal a) (few.1 a) (starts a) (rounds a) le) c l.reader (most n m left + 1) ready.0 ready.1 short (omega (arith, some))
 
   command_ends_so : (c : List ℕ) (next : List ℕ → Talk) → ((a : List ℕ) → Ends (next a)) → Ends (Command c next)
   command_ends_so c next again n m left found results link w ready legal few starts rounds le =
@@ -303,5 +262,5 @@ module _ (fsdi : ℕ) (start : Talk) where
 
 pub every_exchange_counts_law : EveryExchangeCounts
 every_exchange_counts_law fsdi talk commands starts b =
-    over_more fsdi talk (279 * 21 * commands + (705 * starts - 11 * (64 - 64)) + 0) (279 * 21 * commands + 705 * starts) (started talk) (omega arith)
-    (talk_ends fsdi talk talk commands starts 64 false [] None (λ more. refl) tt b.legal b.few_commands b.few_starts b.few_rounds (omega arith))
+    over_more fsdi talk (COMMAND_EXCHANGES * commands + (START_EXCHANGES * starts - ROUND_EXCHANGES * (ROUNDS - ROUNDS)) + 0) (COMMAND_EXCHANGES * commands + START_EXCHANGES * starts) (started talk) (omega arith)
+    (talk_ends fsdi talk talk commands starts ROUNDS false [] None (λ more. refl) tt b.legal b.few_commands b.few_starts b.few_rounds (omega arith))

@@ -13,7 +13,7 @@ use Rattle.law_lane.proofs.Moving.{times_more}
 use Rattle.ep_claim.specs.Lanes.Order.{Order, next_turn}
 use Rattle.ep_claim.specs.Lanes.LaneText.{Job, Going, opens_by, opens, heard_lane, goes_on, piece_of}
 use Rattle.ep_claim.specs.Lanes.Turning.{IsLane}
-use Rattle.ep_claim.specs.Lanes.WholeRun.{ProbeSteps, Run, is_live, asks, takes_turn, run_step, opening_lanes, opened_run}
+use Rattle.ep_claim.specs.Lanes.WholeRun.{ProbeSteps, Run, is_live, makes_exchange, takes_turn, run_step, opening_lanes, opened_run}
 use Rattle.ep_claim.specs.Lanes.Counting.{IsOverAfter, exchanges_most}
 use Rattle.ep_claim.specs.Lanes.Ending.{AreOverAfter, LanesOverAfter, in_all, HasEnded, RunsEndWithin, AreBounded, LanesAreBounded, RunsEnd, OneEnd}
 use Rattle.law_turns.proofs.Counting.{every_exchange_counts_law}
@@ -124,7 +124,7 @@ module _ (fsdi : ℕ) where
     live_fits f run n g fits d = subst (λ o. Within (f n) o) d (fits.lanes n)
 
     -- after an exchange of lane n
-    asks_fit : (f : ℕ → ℕ) (run : Run P) (n : ℕ) (o : Order) (g : Going) (ask : Ask) → Fits f run → run.lanes n ≡ Some g → Fits (less_at n f) (asks traced probe fsdi n o g (Some ask) run)
+    asks_fit : (f : ℕ → ℕ) (run : Run P) (n : ℕ) (o : Order) (g : Going) (ask : Ask) → Fits f run → run.lanes n ≡ Some g → Fits (less_at n f) (makes_exchange traced probe fsdi n o g (Some ask) run)
     asks_fit f run n o g ask fits d =
         let a = field_answers ask g.lane.field in
         let heard = (probe.hear run.probe n ask (or_silence a.0)).1 in
@@ -180,7 +180,7 @@ module _ (fsdi : ℕ) where
         (λ n o g e d x. absurd (mute f run n g fits d x))
         (λ n o g ask e d x.
         let fall = falls f run n g fits d in
-        ends_in k (less_at n f) (asks traced probe fsdi n o g (Some ask) run) (asks_fit f run n o g ask fits d) (omega (arith, fall, le)))
+        ends_in k (less_at n f) (makes_exchange traced probe fsdi n o g (Some ask) run) (asks_fit f run n o g ask fits d) (omega (arith, fall, le)))
 
   -- ---- the opening
 

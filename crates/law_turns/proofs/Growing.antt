@@ -5,6 +5,7 @@ use Rattle.std.proofs.Math.Nat.{mul-le-mul_right}
 use Rattle.std.proofs.lemmas.Nat.{mul-le}
 use Rattle.std.proofs.lemmas.List.Elements.{All-head, All-tail}
 use Rattle.std.proofs.lemmas.List.Sums.{sum_by-cons}
+use Rattle.ep_base.specs.declared.limits.TheConstants.{LANES, NAMED, SCRIPTS, STEPS, TRANSACTIONS, TYPE_COMBINATIONS}
 use Rattle.ep_rules.specs.EntryPoint.Kernel.{scripted}
 use Rattle.ep_claim.specs.Lanes.Steps.{times}
 use Rattle.ep_rules.specs.EntryPoint.Talk.{Talk}
@@ -48,9 +49,9 @@ runs_stay_law probe traced fsdi turns p lanes m n le over =
 
 log_more : (r c s r' c' s' : ℕ) → r ≤ r' → c ≤ c' → s ≤ s' → log_bound r c s ≤ log_bound r' c' s'
 log_more r c s r' c' s' a b d =
-    let factor : 1 + 28 * c ≤ 1 + 28 * c' = omega (arith, b) in
+    let factor : 1 + NAMED * c ≤ 1 + NAMED * c' = omega (arith, b) in
     let starts : 1 + r ≤ 1 + r' = omega (arith, a) in
-    let product = mul-le (1 + r) (1 + 28 * c) (1 + r') (1 + 28 * c') starts factor in
+    let product = mul-le (1 + r) (1 + NAMED * c) (1 + r') (1 + NAMED * c') starts factor in
     omega (arith, product, d)
 
 exchanges_more : (c s c' s' : ℕ) → c ≤ c' → s ≤ s' → exchanges_most c s ≤ exchanges_most c' s'
@@ -79,10 +80,10 @@ short_bounded talk s =
 short_over : (fsdi : ℕ) (talk : Talk) → IsShort talk → IsOverAfter fsdi talk most_of_one (started talk)
 unfolding most_of_one
 short_over fsdi talk s =
-    let few : starts_of s ≤ 5 = omega (arith, s.few_scripts) in
-    let most = log_more _ (length s.list) (scripted.commands s.kernels) 4 16 64 s.few_scripts s.few_combinations s.few_steps in
-    over_more fsdi talk (exchanges_most (commands_of s) (starts_of s)) (exchanges_most (log_bound 4 16 64) 5)
-    (exchanges_more (commands_of s) (starts_of s) (log_bound 4 16 64) 5 most few)
+    let few : starts_of s ≤ SCRIPTS + 1 = omega (arith, s.few_scripts) in
+    let most = log_more _ (length s.list) (scripted.commands s.kernels) SCRIPTS TYPE_COMBINATIONS (SCRIPTS * STEPS) s.few_scripts s.few_combinations s.few_steps in
+    over_more fsdi talk (exchanges_most (commands_of s) (starts_of s)) (exchanges_most (log_bound SCRIPTS TYPE_COMBINATIONS (SCRIPTS * STEPS)) (SCRIPTS + 1))
+    (exchanges_more (commands_of s) (starts_of s) (log_bound SCRIPTS TYPE_COMBINATIONS (SCRIPTS * STEPS)) (SCRIPTS + 1) most few)
     (every_exchange_counts_law fsdi talk (commands_of s) (starts_of s) (short_bounded talk s))
 
 -- ---- the same count for each transaction
@@ -112,7 +113,7 @@ module _ (fsdi n : ℕ) (over : (talk : Talk) → IsShort talk → IsOverAfter f
   lane_sum [] = omega arith
   lane_sum (j ∷ js) = let first = sum_by-cons (λ x. x) n (lane_counts js) in let rest = lane_sum js in omega (arith, first, rest)
 
-  all_sum : (lanes : List (List Job)) → All IsShortLane lanes → in_all (all_counts lanes) ≤ length lanes * (64 * n)
+  all_sum : (lanes : List (List Job)) → All IsShortLane lanes → in_all (all_counts lanes) ≤ length lanes * (TRANSACTIONS * n)
   all_sum [] short = omega arith
   all_sum (js ∷ lanes) short =
       let first = lane_sum js in
@@ -120,14 +121,14 @@ module _ (fsdi n : ℕ) (over : (talk : Talk) → IsShort talk → IsOverAfter f
       let rest = all_sum lanes (All-tail IsShortLane js lanes short) in
       omega (arith, first, few, rest)
 
-  in_most : (lanes : List (List Job)) → AreShort lanes → in_all (all_counts lanes) ≤ 512 * n
+  in_most : (lanes : List (List Job)) → AreShort lanes → in_all (all_counts lanes) ≤ LANES * TRANSACTIONS * n
   in_most lanes short =
       let most = all_sum lanes short.short in
-      let few = mul-le-mul_right (64 * n) short.few in
+      let few = mul-le-mul_right (TRANSACTIONS * n) short.few in
       omega (arith, most, few)
 
 ends_in_most : {P : Type 0} (probe : ProbeSteps P) (traced : Bool) (fsdi : ℕ) (turns : List ℕ) (p : P) (lanes : List (List Job)) (n most : ℕ)
-    → most ≡ 512 * n → ((talk : Talk) → IsShort talk → IsOverAfter fsdi talk n (started talk)) → AreShort lanes
+    → most ≡ LANES * TRANSACTIONS * n → ((talk : Talk) → IsShort talk → IsOverAfter fsdi talk n (started talk)) → AreShort lanes
     → HasEnded (length lanes) (run_after traced probe fsdi turns p lanes most)
 ends_in_most probe traced fsdi turns p lanes n most is over short =
     let counts = all_counts fsdi n over lanes in
@@ -135,7 +136,7 @@ ends_in_most probe traced fsdi turns p lanes n most is over short =
     (runs_stay_law probe traced fsdi turns p lanes (in_all counts) most (omega (arith, few, is))
     (runs_end_within_law probe traced fsdi turns p lanes counts (lanes_over fsdi n over lanes short.short))).0
 
-most_is : most_exchanges ≡ 512 * most_of_one
+most_is : most_exchanges ≡ LANES * TRANSACTIONS * most_of_one
 unfolding most_exchanges
 most_is = refl
 

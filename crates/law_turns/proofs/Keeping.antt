@@ -2,10 +2,8 @@
 use Rattle.std.proofs.Common.{◌≡◌, ◌≢◌, ◌⊎◌, inl, inr, ℕ, ◌+◌, Bool, false, List, [], ◌∷◌, ◌++◌, All, refl, sym, ap, subst, ◌∙◌}
 use Rattle.std.proofs.lemmas.List.Elements.{All-head, All-tail}
 use Rattle.ep_base.specs.Air.Fates.{AllPass}
-use Rattle.ep_base.specs.Air.Heard.{Activated, RoundEnd}
-use Rattle.ep_base.specs.Cards.CardAnswer.{Image}
-use Rattle.ep_rules.specs.EntryPoint.Perfect.{Perfect}
-use Rattle.ep_rules.specs.EntryPoint.Event.{Said}
+use Rattle.ep_base.specs.Air.Heard.{RoundEnd}
+use Rattle.ep_rules.specs.EntryPoint.Event.{Event as EventData}
 use Rattle.ep_rules.specs.EntryPoint.Talk.{Nothing, so_far}
 use Rattle.ep_rules.specs.EntryPoint.TransportRun.{HearEnd, Whole, AtLink, AtBreach, AtDevice, said_for}
 use Rattle.ep_claim.specs.Text.WrittenText.{event_lines, log_lines, lane_text_from}
@@ -16,7 +14,7 @@ use Rattle.law_lane.proofs.Keeping.{lanes_keep_law, no_loss_law}
 use Rattle.ep_claim.specs.Lanes.LaneText.{Job}
 use Rattle.ep_claim.specs.Lanes.Telling.{job_after, IsOverAt, job_text, whole_text, AreTold}
 use Rattle.ep_claim.specs.Promise.Transaction.{Cards, radio_of, IsReady, events_at, log_at, perfect_at, perfect_said, TransactionPromise, TransactionsKeep}
-use Rattle.ep_claim.specs.Promise.Lane.{AreReady, AreKept, lane_lines, ends_at, perfect_ends, EveryFramePasses, LanePromise, ToldKeep}
+use Rattle.ep_claim.specs.Promise.Lane.{AreReady, AreKept, lane_lines, ends_at, perfect_ends, EveryFramePasses, ToldKeep}
 use Rattle.law_turns.proofs.Least.{Least, least}
 use Rattle.law_turns.proofs.Telling.{exchanges_tell_events}
 use Rattle.law_turns.proofs.Thirds.{third_lem, only_third_lem, two_bad_lem}
@@ -54,7 +52,7 @@ module _ (fsdi : ℕ) (j : Job) (cards : Cards) (n : ℕ) where
   finished_by AtBreach keeps other = absurd (keeps [])
   finished_by AtDevice keeps other = absurd (keeps [])
 
-  abbrev IsFirstPart : List Said → List RoundEnd → Type 0
+  abbrev IsFirstPart : List EventData → List RoundEnd → Type 0
   IsFirstPart events later = EndsInLink j.talk last.standing.results events (log_at fsdi j n) (perfect_at fsdi j cards n later)
 
   first_by : (ending : HearEnd) → last.standing.doing ≡ Stopped ending → KeepsFor ending → ending ≡ AtLink → (later : List RoundEnd)

@@ -1,37 +1,31 @@
 -- A transaction's log always has a free record.
-use Rattle.std.proofs.Common.{◌≡◌, ◌⊎◌, ⊎_elim, ℕ, zero, suc, ◌+◌, ◌<◌, ◌≤◌, nat_lt, Bool, true, false, List, [], ◌∷◌, ◌++◌, length, length-append, refl, sym, ap, subst, ◌∙◌, append-nil, arith, Option, Some, None}
+use Rattle.std.proofs.Common.{◌≡◌, ◌⊎◌, ⊎_elim, ℕ, zero, suc, ◌+◌, ◌≤◌, true, false, List, [], ◌∷◌, ◌++◌, length, length-append, refl, sym, ap, subst, ◌∙◌, append-nil, arith, Option, Some, None}
 use Rattle.std.specs.Prelude.{if◌then◌else◌}
 use Rattle.ep_base.specs.declared.air.Wave.{Wave}
-use Rattle.ep_base.specs.Air.Heard.{Ask, Heard, RoundEnd}
-use Rattle.ep_base.specs.Air.Heard as rounds
-use Rattle.ep_base.specs.Poll.Round.{Stage, round_hears}
+use Rattle.ep_base.specs.Air.Heard.{Ask, RoundEnd}
 use Rattle.ep_base.specs.Air.Fates.{next_fate}
 use Rattle.ep_base.specs.Link.Wire.{comes_down}
 use Rattle.ep_base.specs.Air.Medium.{told}
 use Rattle.ep_base.specs.Cards.Field.{Placed, Field, field, field_reset, all_hear, all_take, one_hears}
-use Rattle.ep_base.specs.Link.ReaderEnd.{Turn, Asks, Gives, Spends, Breaks, reader_hears}
-use Rattle.ep_base.specs.Link.LinkFrames.{LinkSetting, heard_block}
+use Rattle.ep_base.specs.Link.ReaderEnd.{ReaderTurn, Asks, Gives, Spends, Breaks}
+use Rattle.ep_base.specs.Link.LinkFrames.{LinkSetting}
 use Rattle.ep_base.specs.Poll.Radio.{OpenLink}
 use Rattle.ep_base.specs.Cards.Images.{Rules, stored}
 use Rattle.ep_rules.specs.EntryPoint.Perfect.{Channel, Perfect, at_command, perfect, channel, presents}
 use Rattle.ep_base.specs.Cards.Direct.{image_rules}
 use Rattle.ep_rules.specs.EntryPoint.Talk.{ends_of}
-use Rattle.ep_rules.specs.EntryPoint.Talk.{Talk, Over, Say, Poll, Command, Close, Result, Round, Response, Closed, so_far}
+use Rattle.ep_rules.specs.EntryPoint.Talk.{Talk, Over, Say, Poll, Command, Close, Result, so_far}
 use Rattle.ep_rules.specs.EntryPoint.TransportRun.{HearEnd, Whole, AtLink, AtBreach, AtDevice}
-use Rattle.ep_rules.specs.EntryPoint.Bounds.{AtMost, apdus, commands_wished, AreShortResults}
+use Rattle.ep_rules.specs.EntryPoint.Bounds.{apdus, commands_wished}
 use Rattle.law_run.proofs.Bounding.{few_apdus_lem}
 use Rattle.ep_claim.specs.Promise.Perfection.{Keeps, responses}
 use Rattle.law_lane.specs.Hearing.{HearsRounds, HearsTurn}
-use Rattle.ep_claim.specs.Lanes.Standing.{Standing, Doing, Rounds, Carries, Closing, Stopped, Astray, asked_by, link_by, after_stage, after_turn, hears_by}
-use Rattle.ep_claim.specs.Lanes.Exchanges.{Lane, field_answers, or_silence, opened_lane, goes_by, lane_step, lane_after}
-use Rattle.law_lane.specs.LaneLaw.{LaneEnds}
+use Rattle.ep_claim.specs.Lanes.Standing.{asked_by, link_by}
+use Rattle.ep_claim.specs.Lanes.Exchanges.{Lane, field_answers, opened_lane, goes_by, lane_step, lane_after}
 use Rattle.law_lane.proofs.Ending.{lanes_end_law}
 use Rattle.law_lane.proofs.Moving.{times_more}
-use Rattle.ep_claim.specs.Lanes.LaneText.{Job}
-use Rattle.ep_claim.specs.Lanes.Telling.{job_after}
-use Rattle.ep_claim.specs.Promise.Transaction.{Cards, radio_of, IsReady}
-use Rattle.ep_claim.specs.Promise.Logs.{LogFits, LogsFit}
-use Rattle.law_turns.proofs.Counting.{IsShort, reader_short}
+use Rattle.ep_claim.specs.Promise.Transaction.{radio_of}
+use Rattle.ep_claim.specs.Promise.Logs.{LogsFit}
 
 -- ---- a log grows, and its room stays
 
@@ -91,57 +85,6 @@ module _ (fsdi : ℕ) (talk : Talk) where
       ∙ (ap (λ k. lane_after fsdi talk k l) turned ∙ (times_more (lane_step fsdi talk) count n l ∙ stays_over n last over)) in
       subst (λ (z : Lane). length (lane_after fsdi talk n l).field.log ≤ length z.field.log) same grown
 
-  -- ---- the responses that were heard are short
-
-  abbrev Short : List Result → Type 0
-  Short results = AreShortResults results
-
-  round_short : (results : List Result) (e : RoundEnd) → Short results → Short (results ++ Round e ∷ [])
-  round_short [] e s = tt
-  round_short ((Round d) ∷ rest) e s = round_short rest e s
-  round_short ((Response r) ∷ rest) e s = (s.0, round_short rest e s.1)
-  round_short (Closed ∷ rest) e s = round_short rest e s
-
-  response_short : (results : List Result) (a : List ℕ) → length a ≤ 258 → Short results → Short (results ++ Response a ∷ [])
-  response_short [] a brief s = (brief, tt)
-  response_short ((Round d) ∷ rest) a brief s = response_short rest a brief s
-  response_short ((Response r) ∷ rest) a brief s = (s.0, response_short rest a brief s.1)
-  response_short (Closed ∷ rest) a brief s = response_short rest a brief s
-
-  closed_short : (results : List Result) → Short results → Short (results ++ Closed ∷ [])
-  closed_short [] s = tt
-  closed_short ((Round d) ∷ rest) s = closed_short rest s
-  closed_short ((Response r) ∷ rest) s = (s.0, closed_short rest s.1)
-  closed_short (Closed ∷ rest) s = closed_short rest s
-
-  stage_short : (results : List Result) (turn : rounds.Turn Stage) → Short results → Short (after_stage fsdi talk results turn).results
-  stage_short results (rounds.Goes stage) s = s
-  stage_short results (rounds.Ends e) s = round_short results e s
-
-  turn_short : (results : List Result) (set : LinkSetting) (turn : Turn) → IsShort turn → Short results → Short (after_turn talk results set turn).results
-  turn_short results set (Asks q) brief s = s
-  turn_short results set (Gives a q) brief s = response_short results a brief s
-  turn_short results set (Spends q) brief s = s
-  turn_short results set (Breaks q) brief s = s
-
-  heard_short : (results : List Result) (doing : Doing) (h : Heard) → Short results → Short (hears_by fsdi talk results h doing).results
-  heard_short results (Rounds stage) h s = stage_short results (round_hears stage h) s
-  heard_short results (Carries l) h s =
-      let block = heard_block l.set.kind l.set.frames.reader h in
-      turn_short results l.set (reader_hears l.set.frames.reader l.reader block) (reader_short l.set.frames.reader l.reader block) s
-  heard_short results (Closing l) h s = closed_short results s
-  heard_short results (Stopped ending) h s = s
-  heard_short results Astray h s = s
-
-  lane_short : (n : ℕ) (l : Lane) → Short l.standing.results → Short (lane_after fsdi talk n l).standing.results
-  lane_short zero l s = s
-  lane_short (suc n) l s =
-      lane_short n (lane_step fsdi talk l)
-      (elim (asked_by fsdi l.standing.doing) as (λ (a : Option Ask). Short (goes_by fsdi talk a l).standing.results) [
-        | None ↦ s
-        | Some ask ↦ heard_short l.standing.results l.standing.doing (or_silence (field_answers ask l.field).0) s
-      ])
-
 -- ---- each response has its command's event
 
 module _ (fsdi : ℕ) where
@@ -151,7 +94,7 @@ module _ (fsdi : ℕ) where
   abbrev Said : Talk → List Result → Type 0
   Said talk heard = responses heard ≡ apdus (so_far talk heard).events
 
-  turn_said : (c : List ℕ) (next : List ℕ → Talk) (set : LinkSetting) (turn : Turn) (f g : Field) (heard : List Result) (ending : HearEnd)
+  turn_said : (c : List ℕ) (next : List ℕ → Talk) (set : LinkSetting) (turn : ReaderTurn) (f g : Field) (heard : List Result) (ending : HearEnd)
       → ((r : List ℕ) (link : Option OpenLink) (rest : List Result) (v : Field) → Hears (next r) link v rest ending g → Said (next r) rest)
       → HearsTurn (told field) fsdi (λ response n v. Hears (next response) (Some n) v) set turn f heard ending g → Said (Command c next) heard
   turn_said c next set (Asks r) f g heard ending again x = absurd x
@@ -223,10 +166,9 @@ logs_fit_law fsdi j cards commands n ready few room =
     let rules = image_rules cards.number_of in
     let p = perfect rules j.talk (ends_of heard ++ []) (channel cards.images) in
     let over : asked_by fsdi last.standing.doing ≡ None = ap (λ d. asked_by fsdi d) r.stopped in
-    let short : AreShortResults heard = lane_short fsdi j.talk r.count start tt in
     let said = all_said fsdi j.talk None j.field last.field heard r.ending r.hears in
     let lists = perfect_lists rules j.talk (ends_of heard ++ []) (channel cards.images) in
-    let at_end = log_by j.talk commands heard last.field p r.ending lists said (few_apdus_lem j.talk commands heard few short) (r.keeps []) in
+    let at_end = log_by j.talk commands heard last.field p r.ending lists said (few_apdus_lem j.talk commands heard few) (r.keeps []) in
     let most = most_at_end fsdi j.talk n r.count start over in
     let same = (lane_grows fsdi j.talk n start).1 in
     record { most = omega (arith, most, at_end); free = omega (arith, most, at_end, same, room) }

@@ -1,5 +1,5 @@
 -- Each lane of a run stands as its own exchanges led to it, whatever the probe makes of the hearings.
-use Rattle.std.proofs.Common.{◌≡◌, ℕ, zero, suc, ◌+◌, Bool, List, [], ◌∷◌, ◌++◌, length, length-append, map, refl, sym, ap, subst, ◌∙◌, append_assoc, arith, Option, Some, None}
+use Rattle.std.proofs.Common.{◌≡◌, ℕ, zero, suc, ◌+◌, Bool, List, [], ◌∷◌, ◌++◌, length, length-append, refl, sym, ap, subst, ◌∙◌, append_assoc, arith, Option, Some, None}
 use Rattle.std.specs.Prelude.{◌==◌, if◌then◌else◌}
 use Rattle.ep_base.specs.Air.Heard.{Ask, Heard}
 use Rattle.ep_base.specs.Cards.Field.{Field}
@@ -8,9 +8,9 @@ use Rattle.ep_rules.specs.EntryPoint.Talk.{Talk}
 use Rattle.ep_claim.specs.Lanes.Standing.{Standing, started, asked_by, after_hearing}
 use Rattle.ep_claim.specs.Lanes.Exchanges.{Exchange, field_answers, or_silence}
 use Rattle.ep_claim.specs.Lanes.LaneText.{Job, Going, opens_by, opens, heard_lane, goes_on, piece_of}
-use Rattle.ep_claim.specs.Lanes.WholeRun.{ProbeSteps, Run, asks, run_step, opening_lanes, opened_run}
+use Rattle.ep_claim.specs.Lanes.WholeRun.{ProbeSteps, Run, run_step, opening_lanes, opened_run}
 use Rattle.ep_claim.specs.Lanes.Telling.{jobs_of}
-use Rattle.ep_claim.specs.Lanes.Counting.{after_all}
+use Rattle.ep_claim.specs.Lanes.Counting.{after_hearings}
 use Rattle.ep_claim.specs.Promise.Counts.{heard_in, IsUnderWay, AreUnderWay}
 use Rattle.law_turns.proofs.Stepping.{choose, by_step}
 
@@ -20,7 +20,7 @@ heard_more [] x = refl
 heard_more (y ∷ ys) x = ap (λ l. y.heard ∷ l) (heard_more ys x)
 
 module _ (fsdi : ℕ) where
-  all_more : (talk : Talk) (hs : List Heard) (h : Heard) (s : Standing) → after_all fsdi talk (hs ++ h ∷ []) s ≡ after_hearing fsdi talk h (after_all fsdi talk hs s)
+  all_more : (talk : Talk) (hs : List Heard) (h : Heard) (s : Standing) → after_hearings fsdi talk (hs ++ h ∷ []) s ≡ after_hearing fsdi talk h (after_hearings fsdi talk hs s)
   all_more talk [] h s = refl
   all_more talk (x ∷ xs) h s = all_more talk xs h (after_hearing fsdi talk x s)
 
@@ -41,12 +41,12 @@ module _ (fsdi : ℕ) where
 
     -- where the exchanges lead after one more
     led_next : (g : Going) (m : IsUnderWay fsdi jobs g) (x : Exchange)
-        → after_hearing fsdi g.talk x.heard g.lane.standing ≡ after_all fsdi m.job.talk (heard_in (g.lane.exchanges ++ x ∷ [])) (started m.job.talk)
+        → after_hearing fsdi g.talk x.heard g.lane.standing ≡ after_hearings fsdi m.job.talk (heard_in (g.lane.exchanges ++ x ∷ [])) (started m.job.talk)
     led_next g m x =
         ap (λ t. after_hearing fsdi t x.heard g.lane.standing) m.talks
         ∙ (ap (λ s. after_hearing fsdi m.job.talk x.heard s) m.led
         ∙ (sym (all_more m.job.talk (heard_in g.lane.exchanges) x.heard (started m.job.talk))
-        ∙ ap (λ hs. after_all fsdi m.job.talk hs (started m.job.talk)) (sym (heard_more g.lane.exchanges x))))
+        ∙ ap (λ hs. after_hearings fsdi m.job.talk hs (started m.job.talk)) (sym (heard_more g.lane.exchanges x))))
 
     piece_made : (lane : ℕ) (g : Going) (ask : Ask) (h : Heard) (f : Field) → IsUnderWay fsdi jobs g → Made (piece_of fsdi lane g (heard_lane fsdi g.talk ask h f g.lane)).going
     piece_made lane g ask h f m =

@@ -8,7 +8,7 @@ use Rattle.ep_claim.specs.Lanes.Standing.{asked_by}
 use Rattle.ep_claim.specs.Lanes.Exchanges.{field_answers, or_silence}
 use Rattle.ep_claim.specs.Lanes.Order.{Order}
 use Rattle.ep_claim.specs.Lanes.LaneText.{Job, Going, Piece, after_text, opens, trace_part, heard_lane, piece_of}
-use Rattle.ep_claim.specs.Lanes.WholeRun.{open_probe, Run, asks, run_step, run_after, opening_lanes, opened_run}
+use Rattle.ep_claim.specs.Lanes.WholeRun.{open_probe, Run, makes_exchange, run_step, run_after, opening_lanes, opened_run}
 use Rattle.ep_claim.specs.Lanes.Pieces.{of_lane, opening_pieces, turn_piece, step_piece, step_pieces, pieces_after}
 use Rattle.ep_claim.specs.Lanes.Telling.{jobs_of}
 use Rattle.law_turns.proofs.Stepping.{choose, times_end, by_step}
@@ -103,7 +103,7 @@ module _ (traced : Bool) (fsdi lane : ℕ) where
 
       -- the exchange of any lane
       hears_own : (n : ℕ) (o : Order) (g : Going) (ask : Ask) → run.lanes n ≡ Some g → asked_by fsdi g.lane.standing.doing ≡ Some ask
-          → Holds (Some (n, o)) (asks traced open_probe fsdi n o g (Some ask) run)
+          → Holds (Some (n, o)) (makes_exchange traced open_probe fsdi n o g (Some ask) run)
       hears_own n o g ask d x =
           let h = or_silence (field_answers ask g.lane.field).0 in
           let l = heard_lane fsdi g.talk ask h (field_answers ask g.lane.field).1 g.lane in

@@ -1,10 +1,9 @@
 -- The promise of a lane fixes its text.
-use Rattle.std.proofs.Common.{◌≡◌, ℕ, ◌<◌, ◌≤◌, Bool, List, [], ◌∷◌, refl, sym, ap, ◌∙◌, ⊎_elim, arith, Option, Some, None}
+use Rattle.std.proofs.Common.{◌≡◌, ℕ, ◌<◌, ◌≤◌, List, [], ◌∷◌, sym, ap, ◌∙◌, ⊎_elim, arith, Some, None}
 use Rattle.std.proofs.lemmas.Bool.Decides.{leb_tells}
-use Rattle.ep_base.specs.Air.Heard.{Ask}
 use Rattle.ep_claim.specs.Lanes.LaneText.{Job}
 use Rattle.ep_claim.specs.Promise.Transaction.{Cards, TransactionPromise}
-use Rattle.ep_claim.specs.Promise.Lane.{AreKept, lane_lines, LanePromise, OneText}
+use Rattle.ep_claim.specs.Promise.Lane.{AreKept, lane_lines, OneText}
 
 module _ (fsdi : ℕ) (j : Job) (c : Cards) where
   -- a smaller count isn't over

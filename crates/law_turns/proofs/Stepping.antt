@@ -7,7 +7,7 @@ use Rattle.ep_claim.specs.Lanes.Steps.{times}
 use Rattle.ep_claim.specs.Lanes.Standing.{asked_by}
 use Rattle.ep_claim.specs.Lanes.Order.{Order, next_turn}
 use Rattle.ep_claim.specs.Lanes.LaneText.{Going}
-use Rattle.ep_claim.specs.Lanes.WholeRun.{ProbeSteps, Run, is_live, asks, turn_of, takes_turn, run_step}
+use Rattle.ep_claim.specs.Lanes.WholeRun.{ProbeSteps, Run, is_live, makes_exchange, turn_of, takes_turn, run_step}
 
 -- two numbers are the same, or they are not
 pub choose : (a b : ℕ) (C : Bool → Type 0) → (a ≡ b → C true) → (a ≢ b → C false) → C (a == b)
@@ -34,10 +34,10 @@ module _ {P : Type 0} (traced : Bool) (probe : ProbeSteps P) (fsdi count : ℕ) 
 
   abbrev pub Hears : Type 0
   Hears = (n : ℕ) (o : Order) (g : Going) (ask : Ask) → turn_now ≡ Some (n, o) → run.lanes n ≡ Some g → asked_by fsdi g.lane.standing.doing ≡ Some ask
-      → C (Some (n, o)) (asks traced probe fsdi n o g (Some ask) run)
+      → C (Some (n, o)) (makes_exchange traced probe fsdi n o g (Some ask) run)
 
   by_ask : (n : ℕ) (o : Order) (g : Going) → turn_now ≡ Some (n, o) → run.lanes n ≡ Some g → Mute → Hears → (a : Option Ask) → asked_by fsdi g.lane.standing.doing ≡ a
-      → C (Some (n, o)) (asks traced probe fsdi n o g a run)
+      → C (Some (n, o)) (makes_exchange traced probe fsdi n o g a run)
   by_ask n o g e d mute hears None x = mute n o g e d x
   by_ask n o g e d mute hears (Some ask) x = hears n o g ask e d x
 

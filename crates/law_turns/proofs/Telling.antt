@@ -4,13 +4,13 @@ use Rattle.std.proofs.Math.Seq.{drop-append_seam}
 use Rattle.std.proofs.lemmas.Grind.{flat_map-append}
 use Rattle.ep_base.specs.Air.Heard.{Ask}
 use Rattle.ep_claim.specs.Text.ReportLine.{line_of}
-use Rattle.ep_rules.specs.EntryPoint.Event.{Said}
+use Rattle.ep_rules.specs.EntryPoint.Event.{Event as EventData}
 use Rattle.ep_rules.specs.EntryPoint.Talk.{Talk}
 use Rattle.ep_claim.specs.Text.WrittenText.{event_lines, log_lines, lane_text_from}
 use Rattle.ep_claim.specs.Lanes.Standing.{started, asked_by, events_of}
 use Rattle.ep_claim.specs.Lanes.Exchanges.{Lane, field_answers, or_silence, goes_by, lane_step, lane_after, opened_lane}
 use Rattle.law_lane.proofs.Following.{events_grow_law}
-use Rattle.ep_claim.specs.Lanes.LaneText.{Job, Going, Piece, opens_by, opens, added, trace_part, heard_lane, goes_on, piece_of}
+use Rattle.ep_claim.specs.Lanes.LaneText.{Job, Going, Piece, opens_by, opens, added_events, trace_part, heard_lane, goes_on, piece_of}
 use Rattle.ep_claim.specs.Lanes.WholeRun.{open_probe, is_live, run_after}
 use Rattle.ep_claim.specs.Lanes.Pieces.{of_lane, pieces_after}
 use Rattle.ep_claim.specs.Lanes.Telling.{jobs_of, job_after, IsOverAt, exchange_by, exchanges_text, job_text, whole_text, AreTold, Stands, LaneTells, KeepsInRun, RunsTell, AreEnds, TellsReport}
@@ -106,7 +106,7 @@ module _ (traced : Bool) (fsdi lane : ℕ) where
       stands_at n text e = record { before = before; job = job; count = n; done = done; all = all; number = refl; talks = refl; made = refl; told = told; wrote = e }
 
       abbrev last_events : ℕ → List ℕ
-      last_events n = event_lines lane txn (added job.talk (job_after fsdi job n).standing (job_after fsdi job (suc n)).standing)
+      last_events n = event_lines lane txn (added_events job.talk (job_after fsdi job n).standing (job_after fsdi job (suc n)).standing)
 
       -- with an exchange more
       wrote_more : (n : ℕ) (ask : Ask) → asked_by fsdi (job_after fsdi job n).standing.doing ≡ Some ask
@@ -120,7 +120,7 @@ module _ (traced : Bool) (fsdi lane : ℕ) where
           let new = trace ++ last_events n in
           let one : exchange_by traced fsdi lane txn job.talk l (asked_by fsdi l.standing.doing) ≡ new =
           ap (λ a. exchange_by traced fsdi lane txn job.talk l a) e
-          ∙ ap (λ (m : Lane). trace ++ event_lines lane txn (added job.talk l.standing m.standing)) (sym (times_end (lane_step fsdi job.talk) n start)) in
+          ∙ ap (λ (m : Lane). trace ++ event_lines lane txn (added_events job.talk l.standing m.standing)) (sym (times_end (lane_step fsdi job.talk) n start)) in
           let both : exchanges_text traced fsdi lane txn job.talk (suc n) start ≡ old ++ new = exchanges_more txn job.talk n start ∙ ap (λ t. old ++ t) one in
           ap (λ t. done ++ (events ++ t)) both ∙ (ap (λ t. done ++ t) (sym (append_assoc events old new)) ∙ sym (append_assoc done (events ++ old) new))
 
@@ -217,7 +217,7 @@ module _ (fsdi lane txn : ℕ) (talk : Talk) where
             let next = lane_step fsdi talk l in
             let grown = events_grow_law fsdi talk (or_silence (field_answers ask l.field).0) l.standing in
             let is : events_of talk next.standing ≡ old ++ grown.0 = ap (λ o. events_of talk (goes_by fsdi talk o l).standing) e ∙ grown.1 in
-            let new : added talk l.standing next.standing ≡ grown.0 = ap (λ (x : List Said). drop (length old) x) is ∙ drop-append_seam old grown.0 in
+            let new : added_events talk l.standing next.standing ≡ grown.0 = ap (λ (x : List EventData). drop (length old) x) is ∙ drop-append_seam old grown.0 in
             ap (λ x. said l ++ event_lines lane txn x) new ∙ (sym (flat_map-append (line_of lane txn) old grown.0) ∙ ap (λ x. event_lines lane txn x) (sym is))
       ] refl
 
@@ -230,7 +230,7 @@ module _ (fsdi lane txn : ℕ) (talk : Talk) where
       sym (append_assoc (said l) now rest) ∙ (ap (λ t. t ++ rest) (exchange_tells_events l) ∙ exchanges_tell_events n next)
 
 report_from : (fsdi lane : ℕ) (jobs : List Job) (txn : ℕ) (text : List ℕ) → AreTold false fsdi lane txn jobs text
-    → (ends : List (List Said × List (ℕ × List ℕ))) × AreEnds fsdi jobs ends × (text ≡ lane_text_from lane txn ends)
+    → (ends : List (List EventData × List (ℕ × List ℕ))) × AreEnds fsdi jobs ends × (text ≡ lane_text_from lane txn ends)
 report_from fsdi lane [] first text told = ([], tt, told)
 report_from fsdi lane (j ∷ js) first text (n, rest, over, is, told) =
     let l = job_after fsdi j n in

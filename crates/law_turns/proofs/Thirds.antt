@@ -2,26 +2,27 @@
 use Rattle.std.proofs.Common.{◌≡◌, ℕ, zero, suc, ◌+◌, ◌≤◌, Bool, true, false, List, [], ◌∷◌, ◌++◌, refl, sym, ap, subst, ◌∙◌, arith, Option, Some, None}
 use Rattle.std.specs.Prelude.{if◌then◌else◌, nat_lt, nat_le}
 use Rattle.std.proofs.lemmas.Bool.Decides.{nat_tests}
+use Rattle.ep_base.specs.declared.limits.TheConstants.{WAITS}
 use Rattle.ep_base.specs.Link.Block.{I, RAck, RNak, Deselect, Wtx, ReadBlock, Bad, Junk, Intact, same, is_bad, is_wtx, is_nak, count}
 use Rattle.ep_base.specs.Air.Heard.{Ask, Heard, RoundEnd, Empty, Collision, Unsupported, Broken, Found}
 use Rattle.ep_base.specs.Air.Heard as rounds
 use Rattle.ep_base.specs.Link.LinkFrames.{LinkSetting, heard_block}
 use Rattle.ep_base.specs.Poll.Radio.{OpenLink}
-use Rattle.ep_base.specs.Link.ReaderEnd.{Phase, Idle, Sending, Receiving, Reader, Turn, Asks, Gives, Spends, Breaks, asked, is_fit, appended, takes, on_i, on_ack, on_bad, on_wtx, kept, reader_hears}
+use Rattle.ep_base.specs.Link.ReaderEnd.{Phase, Idle, Sending, Receiving, Reader, ReaderTurn, Asks, Gives, Spends, Breaks, asked, is_fit, appended, takes, on_i, on_ack, on_bad, kept, reader_hears}
 use Rattle.ep_base.specs.Poll.Round.{Stage, round_hears}
 use Rattle.ep_rules.specs.EntryPoint.Talk.{Talk, Result, Round, Response, Closed, Wish, Polls, Commands, Closes, Nothing, so_far}
-use Rattle.ep_rules.specs.EntryPoint.TransportRun.{HearEnd, Whole, AtLink, AtBreach, AtDevice}
+use Rattle.ep_rules.specs.EntryPoint.TransportRun.{Whole, AtLink, AtBreach, AtDevice}
 use Rattle.ep_claim.specs.Lanes.Exchanges.{Lane, field_answers, or_silence, opened_lane, goes_by, lane_step, lane_after}
 use Rattle.ep_claim.specs.Lanes.Standing.{Doing, Rounds, Carries, Closing, Stopped, Astray, doing_by, standing, asks_block, asked_by, link_by, after_stage, after_turn, hears_by}
 use Rattle.ep_claim.specs.Lanes.LaneText.{Job}
 use Rattle.ep_claim.specs.Lanes.Telling.{job_after}
-use Rattle.ep_claim.specs.Promise.Thirds.{AsksAt, IsThirdBad, FailsAtThird, FailsOnlyAtThird, TwoBadAtMost, FailsExactlyAtThird}
+use Rattle.ep_claim.specs.Promise.Thirds.{FailsAtThird, FailsOnlyAtThird, TwoBadAtMost, FailsExactlyAtThird}
 use Rattle.law_turns.proofs.Stepping.{times_end}
 
 -- ---- a hearing of an open command
 
 -- What a turn after this hearing leaves: at most two bad hearings where it goes on, and a link is spent by a third one alone.
-abbrev Falls : Reader → ReadBlock → Turn → Type 0
+abbrev Falls : Reader → ReadBlock → ReaderTurn → Type 0
 Falls r h (Asks q) = count is_bad q.since ≤ 2
 Falls r h (Gives response q) = count is_bad q.since ≤ 2
 Falls r h (Spends q) = (h ≡ Bad) × (count is_bad r.since ≡ 2)
@@ -76,7 +77,7 @@ module _ (frame : ℕ) (r : Reader) (few : count is_bad r.since ≤ 2) where
   falls (Intact (RNak k)) = tt
   falls (Intact Deselect) = tt
   falls (Intact (Wtx p m)) =
-      elim (nat_le (count is_wtx (Intact (Wtx p m) ∷ r.since)) 16) as (λ (b : Bool). Falls r (Intact (Wtx p m)) (if b then Asks (kept (Intact (Wtx p m)) r) else Breaks r)) [ true ↦ few | false ↦ tt ]
+      elim (nat_le (count is_wtx (Intact (Wtx p m) ∷ r.since)) WAITS) as (λ (b : Bool). Falls r (Intact (Wtx p m)) (if b then Asks (kept (Intact (Wtx p m)) r) else Breaks r)) [ true ↦ few | false ↦ tt ]
 
 -- ---- a transaction between two exchanges
 
@@ -140,22 +141,22 @@ or_ask a None = a
 or_ask a (Some b) = b
 
 module _ (fsdi : ℕ) (talk : Talk) where
-  few_stage : (results : List Result) (t : rounds.Turn Stage) → Few (after_stage fsdi talk results t).doing
+  few_stage : (results : List Result) (t : rounds.RoundTurn Stage) → Few (after_stage fsdi talk results t).doing
   few_stage results (rounds.Goes stage) = tt
   few_stage results (rounds.Ends e) = few_wish (so_far talk (results ++ Round e ∷ [])).wish (link_by fsdi e) (few_link fsdi e)
 
-  stage_fails_no_link : (results : List Result) (t : rounds.Turn Stage) → at_link (after_stage fsdi talk results t).doing ≡ false
+  stage_fails_no_link : (results : List Result) (t : rounds.RoundTurn Stage) → at_link (after_stage fsdi talk results t).doing ≡ false
   stage_fails_no_link results (rounds.Goes stage) = refl
   stage_fails_no_link results (rounds.Ends e) = wish_fails_no_link (so_far talk (results ++ Round e ∷ [])).wish (link_by fsdi e)
 
-  few_turn : (results : List Result) (set : LinkSetting) (r : Reader) (h : ReadBlock) (t : Turn) → Falls r h t → Few (after_turn talk results set t).doing
+  few_turn : (results : List Result) (set : LinkSetting) (r : Reader) (h : ReadBlock) (t : ReaderTurn) → Falls r h t → Few (after_turn talk results set t).doing
   few_turn results set r h (Asks q) f = f
   few_turn results set r h (Gives response q) f =
       few_wish (so_far talk (results ++ Response response ∷ [])).wish (Some (record { set = set; reader = q })) f
   few_turn results set r h (Spends q) f = tt
   few_turn results set r h (Breaks q) f = tt
 
-  third_turn : (results : List Result) (set : LinkSetting) (r : Reader) (h : ReadBlock) (t : Turn) → Falls r h t
+  third_turn : (results : List Result) (set : LinkSetting) (r : Reader) (h : ReadBlock) (t : ReaderTurn) → Falls r h t
       → (after_turn talk results set t).doing ≡ Stopped AtLink → (h ≡ Bad) × (count is_bad r.since ≡ 2)
   third_turn results set r h (Asks q) f e = absurd (not_failed (Carries (record { set = set; reader = q })) refl e)
   third_turn results set r h (Gives response q) f e =

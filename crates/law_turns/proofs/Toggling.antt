@@ -1,8 +1,9 @@
 -- How the reader's hearings count: with a toggle or without.
 use Rattle.std.proofs.Common.{◌≡◌, ◌⊎◌, inl, inr, ℕ, ◌+◌, nat_le, nat_lt, Bool, true, false, List, [], ◌∷◌, ◌++◌, length, refl, sym, ap, ◌∙◌, arith}
 use Rattle.std.specs.Prelude.{if◌then◌else◌}
+use Rattle.ep_base.specs.declared.limits.TheConstants.{WAITS}
 use Rattle.ep_base.specs.Link.Block.{I, RAck, RNak, Deselect, Wtx, ReadBlock, Bad, Junk, Intact, other, same, is_bad, is_wtx, is_nak, count}
-use Rattle.ep_base.specs.Link.ReaderEnd.{Phase, Idle, Sending, Receiving, Reader, Turn, Asks, Gives, Spends, Breaks, asked, kept, is_fit, takes, appended, on_i, on_ack, reader_hears}
+use Rattle.ep_base.specs.Link.ReaderEnd.{Phase, Idle, Sending, Receiving, Reader, ReaderTurn, Asks, Gives, Spends, Breaks, asked, kept, is_fit, takes, appended, on_i, on_ack, reader_hears}
 use Rattle.law_link.specs.Bounds.{toggle, toggles_in}
 use Rattle.law_link.specs.Bounds as links
 use Rattle.law_round.proofs.Presenting.{either}
@@ -23,7 +24,7 @@ Stays old now = (same now.number old.number ≡ true) × (length now.since ≡ l
 abbrev pub Moves : Reader → Reader → Type 0
 Moves old now = (same now.number old.number ≡ false) × (now.since ≡ [])
 
-abbrev pub Goes_on : Reader → Turn → Type 0
+abbrev pub Goes_on : Reader → ReaderTurn → Type 0
 Goes_on old (Asks now) = Stays old now ⊎ Moves old now
 Goes_on old (Gives response now) = Moves old now
 Goes_on old (Spends now) = Unit {0}
@@ -61,7 +62,7 @@ reader_goes frame r (Intact (RAck k)) =
 reader_goes frame r (Intact (RNak k)) = tt
 reader_goes frame r (Intact Deselect) = tt
 reader_goes frame r (Intact (Wtx p m)) =
-    either (Goes_on r) (nat_le (count is_wtx (Intact (Wtx p m) ∷ r.since)) 16) (Asks (kept (Intact (Wtx p m)) r)) (Breaks r) (inl (stayed (Intact (Wtx p m)) r)) tt
+    either (Goes_on r) (nat_le (count is_wtx (Intact (Wtx p m) ∷ r.since)) WAITS) (Asks (kept (Intact (Wtx p m)) r)) (Breaks r) (inl (stayed (Intact (Wtx p m)) r)) tt
 
 -- the exchanges since the toggle
 pub since_now : (old now : Reader) (n : ℕ) → n ≡ length old.since → Stays old now ⊎ Moves old now → (if same now.number old.number then n + 1 else 0) ≡ length now.since
@@ -76,14 +77,14 @@ toggles_now false n m e = omega (arith, e)
 -- ---- one more hearing of a command
 
 module _ (frame : ℕ) (h : ReadBlock) (r : Reader) where
-  pub after_more : (hs : List ReadBlock) (t : Turn) → links.after_all frame hs t ≡ Asks r → links.after_all frame (hs ++ h ∷ []) t ≡ reader_hears frame r h
+  pub after_more : (hs : List ReadBlock) (t : ReaderTurn) → links.after_all frame hs t ≡ Asks r → links.after_all frame (hs ++ h ∷ []) t ≡ reader_hears frame r h
   after_more [] t e = ap (λ u. links.after_all frame (h ∷ []) u) e
   after_more (x ∷ xs) (Asks q) e = after_more xs (reader_hears frame q x) e
   after_more (x ∷ xs) (Gives response q) e = absurd (let clash : ⊥ = cc in clash)
   after_more (x ∷ xs) (Spends q) e = absurd (let clash : ⊥ = cc in clash)
   after_more (x ∷ xs) (Breaks q) e = absurd (let clash : ⊥ = cc in clash)
 
-  pub toggles_more : (hs : List ReadBlock) (t : Turn) → links.after_all frame hs t ≡ Asks r
+  pub toggles_more : (hs : List ReadBlock) (t : ReaderTurn) → links.after_all frame hs t ≡ Asks r
       → toggles_in frame (hs ++ h ∷ []) t ≡ toggles_in frame hs t + toggle r (reader_hears frame r h)
   toggles_more [] t e =
       ap (λ u. toggles_in frame (h ∷ []) u) e

@@ -5,7 +5,7 @@ use Rattle.ep_base.specs.declared.air.Wave.TheVariants.{ABare}
 use Rattle.ep_base.specs.Link.Block.{I, RAck, ReadBlock, Bad, Intact}
 use Rattle.ep_base.specs.Air.Heard.{Heard, Silence, Noise, Overlap, Frame, Activated, Found}
 use Rattle.ep_base.specs.Air.Heard as rounds
-use Rattle.ep_base.specs.Link.ReaderEnd.{Reader, Turn, Asks, Gives, Spends, Breaks, Idle, reader_hears, begin}
+use Rattle.ep_base.specs.Link.ReaderEnd.{Reader, ReaderTurn, Asks, Gives, Spends, Breaks, Idle, reader_hears, begin}
 use Rattle.ep_rules.specs.EntryPoint.Event.{Finished}
 use Rattle.ep_rules.specs.EntryPoint.Talk.{Talk, Over, Poll}
 use Rattle.ep_claim.specs.Promise.Counts.{Counts, no_counts, count_round, count_turn, count_closing, counts_after}
@@ -65,7 +65,7 @@ found = refl
 -- ---- a command
 
 -- the counts over these hearings of an open command
-abbrev over : List ReadBlock → Turn → Counts → Counts
+abbrev over : List ReadBlock → ReaderTurn → Counts → Counts
 over [] t c = c
 over (h ∷ hs) (Asks r) c = over hs (reader_hears 256 r h) (count_turn r (reader_hears 256 r h) c)
 over (h ∷ hs) (Gives a r) c = c
@@ -76,10 +76,10 @@ abbrev opened : Reader
 opened = record { number = false; phase = Idle; since = [] }
 
 -- of five bytes in one part, or of thirteen and more, by a card with frames of 16 bytes
-abbrev in_one : Turn
+abbrev in_one : ReaderTurn
 in_one = Asks (begin 256 (0 ∷ 164 ∷ 4 ∷ 0 ∷ 0 ∷ []) opened)
 
-abbrev in_two : Turn
+abbrev in_two : ReaderTurn
 in_two = Asks (begin 16 (replicate 20 0) opened)
 
 abbrev command : (commands since toggles exchanges : ℕ) → Counts

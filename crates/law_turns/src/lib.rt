@@ -85,20 +85,20 @@ pub fn tells_report()
     ensures { TellsReport }
 {}
 
-/// Whatever is heard, a transaction is over after the exchanges of its bounds: 5,859 for each command, and 705 for each
-/// Start B, the closing of its presentation among them.
+/// Whatever is heard, a transaction is over after the exchanges of its bounds: `COMMAND_EXCHANGES` for each command, and
+/// `START_EXCHANGES` for each Start B, the closing of its presentation among them.
 ///
-/// It sends commands alone, to a card that was found and not closed, and polls 64 rounds at most in each Start B.
+/// It sends commands alone, to a card that was found and not closed, and polls `ROUNDS` rounds at most in each Start B.
 pub fn every_exchange_counts()
     ensures { EveryExchangeCounts }
 {}
 
 /// Whatever is heard, and after however many exchanges, a transaction's next one is within its bounds: with it a poll round
-/// has at most 11 exchanges, a Start B 64 rounds, and the transaction its Start Bs; a link has at most 32 since the reader's
-/// last toggle, or since it was opened, a command 280 toggles, and the transaction its commands. All its exchanges are at
-/// most those of `every_exchange_counts`.
+/// has at most `ROUND_EXCHANGES` exchanges, a Start B `ROUNDS` rounds, and the transaction its Start Bs; a link has at most
+/// `BETWEEN_TOGGLES` since the reader's last toggle, or since it was opened, a command one toggle more than `TOGGLES`, and the
+/// transaction its commands. All its exchanges are at most those of `every_exchange_counts`.
 ///
-/// It sends commands alone, to a card that was found and not closed, and polls 64 rounds at most in each Start B.
+/// It sends commands alone, to a card that was found and not closed, and polls `ROUNDS` rounds at most in each Start B.
 pub fn next_exchange_fits()
     ensures { BoundedCount }
 {}
@@ -127,12 +127,12 @@ pub fn runs_end<P>()
     ensures once { (probe : ProbeSteps P) → OneEnd probe }
 {}
 
-/// Once a run is over it stays as it is at every larger count of exchanges, and the run of at most 8 lanes of at most 64
-/// transactions is over after 6,928,361,472 exchanges, whatever the probe makes of the hearings. P has the states of the
-/// probe.
+/// Once a run is over it stays as it is at every larger count of exchanges, and the run of at most `LANES` lanes of at most
+/// `TRANSACTIONS` transactions is over after `most_exchanges`, whatever the probe makes of the hearings. P has the states of
+/// the probe.
 ///
-/// Each transaction has at most 16 Combinations, and its kernels follow at most 4 scripts of at most 64 steps together, which
-/// send commands alone.
+/// Each transaction has at most `TYPE_COMBINATIONS` Combinations, and its kernels follow at most `SCRIPTS` scripts of at most
+/// `STEPS` steps each taken together, which send commands alone.
 pub fn runs_end_in_most<P>()
     ensures stay { (probe : ProbeSteps P) → RunsStay probe }
     ensures most { (probe : ProbeSteps P) → RunsEndInMost probe }

@@ -5,7 +5,7 @@ use Rattle.ep_base.specs.Cards.Apdu.{is_command}
 use Rattle.ep_base.specs.Air.Heard.{Heard}
 use Rattle.ep_base.specs.Link.LinkFrames.{LinkSetting}
 use Rattle.ep_base.specs.Air.Medium.{MediumSteps, told}
-use Rattle.ep_base.specs.Link.ReaderEnd.{Reader, Turn, Asks, Gives, Spends, Breaks, asked, begin}
+use Rattle.ep_base.specs.Link.ReaderEnd.{Reader, ReaderTurn, Asks, Gives, Spends, Breaks, asked, begin}
 use Rattle.ep_base.specs.Link.Wire.{Wire, wire}
 use Rattle.ep_base.specs.Link.Carry.{ActsAs, AtRest, OfLink, GoesOn, Follows, turn_on}
 use Rattle.law_wire.specs.Alike.{CarriedAlike}
@@ -14,9 +14,9 @@ use Rattle.law_wire.proofs.Carrying.{IsUnspent, carried_once_lem, unspent_lem}
 module _ {S : Type 0} (steps : MediumSteps S) (set : LinkSetting) (good : S → Bool) (shown : S → Wire) (acts : ActsAs steps set good shown) where
   -- from a good state the hearings are those of a wire
   AsWire : List Heard → Type 0
-  AsWire hs = (r : Reader) (s : S) (turn : Turn) (t : S) → good s ≡ true → Follows steps set hs r s turn t → Follows (told wire) set hs r (shown s) turn (shown t) × (good t ≡ true)
+  AsWire hs = (r : Reader) (s : S) (turn : ReaderTurn) (t : S) → good s ≡ true → Follows steps set hs r s turn t → Follows (told wire) set hs r (shown s) turn (shown t) × (good t ≡ true)
 
-  goes_alike : (hs : List Heard) → AsWire hs → (turn : Turn) (t : S) (x : Turn) (u : S) → good u ≡ true → GoesOn (λ q v. Follows steps set hs q v turn t) x hs u turn t
+  goes_alike : (hs : List Heard) → AsWire hs → (turn : ReaderTurn) (t : S) (x : ReaderTurn) (u : S) → good u ≡ true → GoesOn (λ q v. Follows steps set hs q v turn t) x hs u turn t
       → GoesOn (λ q v. Follows (told wire) set hs q v turn (shown t)) x hs (shown u) turn (shown t) × (good t ≡ true)
   unfolding AsWire
   goes_alike hs again turn t (Asks r) u is on = again r u turn t is on
@@ -39,7 +39,7 @@ carried_alike_lem steps set good shown s r command hs turn t acts is of rest leg
     (carried_once_lem set (shown s) r command hs turn (shown t) of rest legal alike.0, alike.1)
 
 -- where every frame passes, the link isn't spent
-pub unspent_alike : {S : Type 0} (steps : MediumSteps S) (set : LinkSetting) (good : S → Bool) (shown : S → Wire) (s : S) (r : Reader) (command : List ℕ) (hs : List Heard) (turn : Turn) (t : S)
+pub unspent_alike : {S : Type 0} (steps : MediumSteps S) (set : LinkSetting) (good : S → Bool) (shown : S → Wire) (s : S) (r : Reader) (command : List ℕ) (hs : List Heard) (turn : ReaderTurn) (t : S)
     → ActsAs steps set good shown → good s ≡ true → OfLink set (shown s) → AtRest r (shown s).party.card → is_command command ≡ true → (shown s).air.gone ≡ false → AllPass (shown s).air.fates
     → Follows steps set hs (begin set.frames.card command r) s turn t → IsUnspent turn
 unfolding AsWire

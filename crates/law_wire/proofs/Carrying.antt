@@ -2,7 +2,7 @@
 use Rattle.std.proofs.Common.{◌≡◌, ◌⊎◌, ℕ, ◌-◌, ◌≤◌, Bool, true, false, List, [], ◌∷◌, ◌++◌, Option, Some, refl, sym, ap, ◌∙◌, subst, inl, inr, ⊎_elim, arith, append-nil, append_assoc, le-leb, length-append}
 use Rattle.std.specs.Prelude.{◌+◌, ◌<◌, nat_lt, length, unwrap_or}
 use Rattle.ep_base.specs.declared.air.CardKind.{CardKind}
-use Rattle.ep_base.specs.Air.Heard.{Sent as Framed, Heard, Silence, wave_of_kind}
+use Rattle.ep_base.specs.Air.Heard.{Sent as SentData, Heard, Silence, wave_of_kind}
 use Rattle.ep_base.specs.Air.Frame.{sealed}
 use Rattle.ep_base.specs.Air.Medium.{told}
 use Rattle.ep_base.specs.Air.Fates.{AreFates, AllPass, Way, next_fate, gone_by, later}
@@ -11,8 +11,8 @@ use Rattle.ep_base.specs.Link.Block.{Block, ReadBlock, other, is_bad, count}
 use Rattle.ep_base.specs.Link.Parts.{cut}
 use Rattle.ep_base.specs.Cards.CardAnswer as Images
 use Rattle.ep_base.specs.Cards.CardAnswer.{IsAnswer, card_answer}
-use Rattle.ep_base.specs.Link.CardEnd.{Image, Card, Answer, Parts, card_hears, is_halted, records, unlogged}
-use Rattle.ep_base.specs.Link.ReaderEnd.{Reader, Turn, Asks, Gives, Spends, Breaks, Sending, asked, reader_hears, begin}
+use Rattle.ep_base.specs.Link.CardEnd.{CommandRules, Card, Answer, Parts, card_hears, is_halted, records, unlogged}
+use Rattle.ep_base.specs.Link.ReaderEnd.{Reader, ReaderTurn, Asks, Gives, Spends, Breaks, Sending, asked, reader_hears, begin}
 use Rattle.ep_base.specs.Link.OneLink.{goes_down, comes_up}
 use Rattle.ep_base.specs.Link.Spelling.{spelled}
 use Rattle.ep_base.specs.Link.LinkFrames.{LinkSetting, heard_block}
@@ -22,13 +22,13 @@ use Rattle.law_link.specs.Once.{IsImage, AreFrames, IsIdle}
 use Rattle.law_link.proofs.Exchange.{Place, Before, reader_at, card_at, Fine, Fits, GoodTurn, Keeps, log_at, taken, exchange, keeps}
 use Rattle.law_link.proofs.Cutting.{cut_joins}
 use Rattle.law_wire.proofs.Reading.{Sent, sent_block}
-use Rattle.law_wire.proofs.Passing.{MaySend, went, down_law, up_law, next_legs, next_pass, takes_passed, hears_passed}
+use Rattle.law_wire.proofs.Passing.{MaySend, went, down_law, up_law, next_ways, next_pass, takes_passed, hears_passed}
 use Rattle.law_wire.proofs.Limits.{answer_is, linked_image}
 use Rattle.law_wire.proofs.Imaging.{Shifted, shifted, after_after, number_after, records_append}
 use Rattle.law_wire.proofs.Placing.{asked_sent, answer_sent}
 
 -- the link wasn't spent
-abbrev pub IsUnspent : Turn → Type 0
+abbrev pub IsUnspent : ReaderTurn → Type 0
 IsUnspent (Asks r) = Unit {0}
 IsUnspent (Gives response r) = Unit {0}
 IsUnspent (Spends r) = ⊥
@@ -38,7 +38,7 @@ module _ (set : LinkSetting) (w0 : Wire) (of : OfLink set w0) where
   abbrev image0 : Images.Image
   image0 = w0.party.image
 
-  abbrev image : Image
+  abbrev image : CommandRules
   image = by_commands image0
 
   -- the wire, and the card as it is where its list of commands grows and its image stays
@@ -88,7 +88,7 @@ module _ (set : LinkSetting) (w0 : Wire) (of : OfLink set w0) where
       kind = shows.kind;
       frame = shows.frame;
       room = shows.room;
-      fates = (next_legs w.air.fates shows.fates).2;
+      fates = (next_ways w.air.fates shows.fates).2;
       unhalted = both.unhalted shows.unhalted;
     }
 
@@ -101,7 +101,7 @@ module _ (set : LinkSetting) (w0 : Wire) (of : OfLink set w0) where
       kind = shows.kind;
       frame = shows.frame;
       room = shows.room;
-      fates = (next_legs w.air.fates shows.fates).2;
+      fates = (next_ways w.air.fates shows.fates).2;
       unhalted = shows.unhalted;
     }
 
@@ -139,13 +139,13 @@ module _ (set : LinkSetting) (w0 : Wire) (of : OfLink set w0) where
         let heeded : Heeded = wire_heeds w (wave_of_kind set.kind) (sealed (wave_of_kind set.kind) (spelled b)) in
         let down = down_law set.kind w b (sent_block b is) shows.fates in
         let done_it : Done heeded = subst Done (sym down.1) (done down.0) in
-        let up = up_law set.kind set.frames.reader (goes_down done_it.down set.frames image card b).block (may_send may done_it.down) (next_fate w.air.fates).up (next_legs w.air.fates shows.fates).1 in
+        let up = up_law set.kind set.frames.reader (goes_down done_it.down set.frames image card b).block (may_send may done_it.down) (next_fate w.air.fates).up (next_ways w.air.fates shows.fates).1 in
         let hearing : comes_back (next_fate w.air.fates).up (aired heeded.answer) ≡ h = ap (λ (p : Option Heard × Wire). unwrap_or p.0 Silence) e in
         let then : moved w heeded ≡ u = ap (λ (p : Option Heard × Wire). p.1) e in
         record {
           down = done_it.down;
           up = up.0;
-          heard = ap (heard_block set.kind set.frames.reader) (sym hearing) ∙ ap (λ (a : Option Framed). heard_block set.kind set.frames.reader (comes_back (next_fate w.air.fates).up (aired a))) done_it.answer ∙ up.1;
+          heard = ap (heard_block set.kind set.frames.reader) (sym hearing) ∙ ap (λ (a : Option SentData). heard_block set.kind set.frames.reader (comes_back (next_fate w.air.fates).up (aired a))) done_it.answer ∙ up.1;
           later = subst (λ (x : Wire). Shows x (goes_down done_it.down set.frames image card b).card) then done_it.later;
         }
 
@@ -174,7 +174,7 @@ module _ (set : LinkSetting) (w0 : Wire) (of : OfLink set w0) where
           heard =
               ap (heard_block set.kind set.frames.reader) (sym hearing)
               ∙ ap (λ (leg : Way). heard_block set.kind set.frames.reader (comes_back leg (aired heeded.answer))) pass.1
-              ∙ ap (λ (a : Option Framed). heard_block set.kind set.frames.reader (aired a)) answer
+              ∙ ap (λ (a : Option SentData). heard_block set.kind set.frames.reader (aired a)) answer
               ∙ hears_passed set.kind set.frames.reader by_list.block may;
           later = subst (λ (x : Wire). Shows x by_list.card) then (subst (λ (x : Heeded). Shows (moved w x) by_list.card) (sym took) shows_taken);
           gone = subst (λ (x : Wire). x.air.gone ≡ false) then stays;
@@ -234,11 +234,11 @@ module _ (set : LinkSetting) (w0 : Wire) (of : OfLink set w0) where
         (answer_sent set.frames image [] command sized linked reply_is.wtxm_least reply_is.wtxm_most m t.next s t.fine t.answers)
 
     Rest : List Heard → Type 0
-    Rest hs = (m : Bool) (place : Place) (s : List ReadBlock) (w : Wire) (turn : Turn) (t : Wire) → Fine set.frames image [] command place
+    Rest hs = (m : Bool) (place : Place) (s : List ReadBlock) (w : Wire) (turn : ReaderTurn) (t : Wire) → Fine set.frames image [] command place
         → Fits set.frames image [] command m place s → count is_bad s ≤ 2 → Shows w (card_at set.frames image [] command m place)
         → Follows (told wire) set hs (At m place s) w turn t → OnceSo w0 command turn t
 
-    then_rest : (hs : List Heard) → Rest hs → (turn : Turn) (t : Wire) (x : Turn) (card : Card) (u : Wire) → GoodTurn set.frames image [] command x card → Shows u card
+    then_rest : (hs : List Heard) → Rest hs → (turn : ReaderTurn) (t : Wire) (x : ReaderTurn) (card : Card) (u : Wire) → GoodTurn set.frames image [] command x card → Shows u card
         → GoesOn (λ q v. Follows (told wire) set hs q v turn t) x hs u turn t → OnceSo w0 command turn t
     unfolding Rest
     then_rest hs rest turn t (Asks r) card u g shows on =
@@ -247,17 +247,17 @@ module _ (set : LinkSetting) (w0 : Wire) (of : OfLink set w0) where
         rest g.0 g.1 g.2 u turn t g.3 g.4 g.5 here at
     then_rest hs rest turn t (Gives response r) card u g shows on =
         let ended : OnceSo w0 command (Gives response r) u = (g.0, executed_so u card shows g.1, at_rest r u card shows g.2) in
-        subst (λ (x : Turn). OnceSo w0 command x t) (sym on.1) (subst (λ (v : Wire). OnceSo w0 command (Gives response r) v) (sym on.2) ended)
+        subst (λ (x : ReaderTurn). OnceSo w0 command x t) (sym on.1) (subst (λ (v : Wire). OnceSo w0 command (Gives response r) v) (sym on.2) ended)
     then_rest hs rest turn t (Spends r) card u g shows on =
         let ended : OnceSo w0 command (Spends r) u = (g.0, at_most u card shows g.1) in
-        subst (λ (x : Turn). OnceSo w0 command x t) (sym on.1) (subst (λ (v : Wire). OnceSo w0 command (Spends r) v) (sym on.2) ended)
+        subst (λ (x : ReaderTurn). OnceSo w0 command x t) (sym on.1) (subst (λ (v : Wire). OnceSo w0 command (Spends r) v) (sym on.2) ended)
     then_rest hs rest turn t (Breaks r) card u g shows on = absurd g
 
     all_hearings : (hs : List Heard) → Rest hs
     unfolding Rest
     all_hearings [] m place s w turn t fine fits le shows follows =
         let now : AtMostOnce w0 command w = at_most w (card_at set.frames image [] command m place) shows (log_at set.frames image [] command m place) in
-        subst (λ (x : Turn). OnceSo w0 command x t) (sym follows.0) (subst (λ (v : Wire). AtMostOnce w0 command v) (sym follows.1) now)
+        subst (λ (x : ReaderTurn). OnceSo w0 command x t) (sym follows.0) (subst (λ (v : Wire). AtMostOnce w0 command v) (sym follows.1) now)
     all_hearings (h ∷ hs) m place s w turn t fine fits le shows follows =
         let card : Card = card_at set.frames image [] command m place in
         let r : Reader = At m place s in
@@ -286,11 +286,11 @@ module _ (set : LinkSetting) (w0 : Wire) (of : OfLink set w0) where
         le-leb _ _ free
 
     Unspent : List Heard → Type 0
-    Unspent hs = (m : Bool) (place : Place) (s : List ReadBlock) (w : Wire) (turn : Turn) (t : Wire) → Fine set.frames image [] command place
+    Unspent hs = (m : Bool) (place : Place) (s : List ReadBlock) (w : Wire) (turn : ReaderTurn) (t : Wire) → Fine set.frames image [] command place
         → Fits set.frames image [] command m place s → count is_bad s ≤ 0 → Shows w (card_at set.frames image [] command m place) → w.air.gone ≡ false → AllPass w.air.fates
         → Follows (told wire) set hs (At m place s) w turn t → IsUnspent turn
 
-    then_unspent : (hs : List Heard) → Unspent hs → (turn : Turn) (t : Wire) (x : Turn) (card : Card) (u : Wire) → GoodTurn set.frames image [] command x card
+    then_unspent : (hs : List Heard) → Unspent hs → (turn : ReaderTurn) (t : Wire) (x : ReaderTurn) (card : Card) (u : Wire) → GoodTurn set.frames image [] command x card
         → Keeps set.frames image [] command 0 x → Shows u card → u.air.gone ≡ false → AllPass u.air.fates
         → GoesOn (λ q v. Follows (told wire) set hs q v turn t) x hs u turn t → IsUnspent turn
     unfolding Unspent
@@ -299,13 +299,13 @@ module _ (set : LinkSetting) (w0 : Wire) (of : OfLink set w0) where
         let there : Shows u (card_at set.frames image [] command g.0 g.1) = subst (λ (c : Card). Shows u c) g.7 shows in
         let still : count is_bad g.2 ≤ 0 = subst (λ (q : Reader). count is_bad q.since ≤ 0) g.6 none in
         rest g.0 g.1 g.2 u turn t g.3 g.4 still there here all at
-    then_unspent hs rest turn t (Gives response r) card u g none shows here all on = subst (λ (x : Turn). IsUnspent x) (sym on.1) tt
+    then_unspent hs rest turn t (Gives response r) card u g none shows here all on = subst (λ (x : ReaderTurn). IsUnspent x) (sym on.1) tt
     then_unspent hs rest turn t (Spends r) card u g none shows here all on = absurd (omega (arith, none))
     then_unspent hs rest turn t (Breaks r) card u g none shows here all on = absurd g
 
     all_unspent : (hs : List Heard) → Unspent hs
     unfolding Unspent
-    all_unspent [] m place s w turn t fine fits le shows here all follows = subst (λ (x : Turn). IsUnspent x) (sym follows.0) tt
+    all_unspent [] m place s w turn t fine fits le shows here all follows = subst (λ (x : ReaderTurn). IsUnspent x) (sym follows.0) tt
     all_unspent (h ∷ hs) m place s w turn t fine fits le shows here all follows =
         let sent : Sent (asked (At m place s)) = asked_sent set.frames image [] command sized linked reply_is.wtxm_least reply_is.wtxm_most m place s fits in
         let x = passed_exchange w (card_at set.frames image [] command m place) shows (asked (At m place s)) sent (may_answer m place s fine fits) here all (has_room w m place shows) h follows.0 follows.1 in
@@ -339,7 +339,7 @@ module _ (set : LinkSetting) (w : Wire) (r : Reader) (command : List ℕ) (of : 
     unhalted = rest.unhalted;
   }
 
-  from_first : (hs : List Heard) (turn : Turn) (t : Wire) → Follows (told wire) set hs (begin set.frames.card command r) w turn t
+  from_first : (hs : List Heard) (turn : ReaderTurn) (t : Wire) → Follows (told wire) set hs (begin set.frames.card command r) w turn t
       → Follows (told wire) set hs (reader_at set.frames (by_commands w.party.image) [] command w.party.card.number first_place []) w turn t
   from_first hs turn t follows = subst (λ (q : Reader). Follows (told wire) set hs q w turn t) begun_at follows
 
@@ -350,7 +350,7 @@ carried_once_lem set w r command hs turn t of rest legal follows =
     (shows_first set w r command of rest) (from_first set w r command of rest hs turn t follows)
 
 -- where every frame passes, the link isn't spent
-pub unspent_lem : (set : LinkSetting) (w : Wire) (r : Reader) (command : List ℕ) (hs : List Heard) (turn : Turn) (t : Wire)
+pub unspent_lem : (set : LinkSetting) (w : Wire) (r : Reader) (command : List ℕ) (hs : List Heard) (turn : ReaderTurn) (t : Wire)
     → OfLink set w → AtRest r w.party.card → is_command command ≡ true → w.air.gone ≡ false → AllPass w.air.fates
     → Follows (told wire) set hs (begin set.frames.card command r) w turn t → IsUnspent turn
 unfolding Unspent

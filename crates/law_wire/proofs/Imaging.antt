@@ -1,30 +1,31 @@
 -- A card whose image moves on with each command, against one whose list of commands grows.
 use Rattle.std.proofs.Common.{◌≡◌, ℕ, zero, suc, Bool, true, false, List, [], ◌∷◌, ◌++◌, length, Option, Some, None, refl, sym, ap, ◌∙◌, subst, append-nil}
 use Rattle.std.specs.Prelude.{nat_le, ◌-◌, if◌then◌else◌, slice_get, position}
+use Rattle.ep_base.specs.declared.limits.TheConstants.{COMMAND}
 use Rattle.ep_base.specs.Air.Heard.{Activated}
 use Rattle.ep_base.specs.Cards.Apdu.{same_bytes, is_command, command_data, ppse_name}
 use Rattle.ep_base.specs.Link.Block.{Block, I, RAck, RNak, Deselect, Wtx, other, same}
 use Rattle.ep_base.specs.Link.Parts.{Cut, cut}
 use Rattle.ep_base.specs.Cards.CardAnswer.{Answered, App, Image, is_select, by_app, by_place, select_answer, ppse_answer, in_app, other_answer, card_answer}
-use Rattle.ep_base.specs.Link.CardEnd.{Card, Answer, Left, Parts, Waits, is_halted, sends_first, sends_part, sends, again, answers, executes, on_part, on_ack, on_wtx, mute, dropped, card_hears, records, unlogged}
-use Rattle.ep_base.specs.Cards.Images.{unasked, answered}
+use Rattle.ep_base.specs.Link.CardEnd.{Card, Answer, Unsent, Parts, Waits, is_halted, sends_first, sends_part, sends, again, answers, executes, on_part, card_on_ack, card_on_wtx, mute, dropped, card_hears, records, unlogged}
+use Rattle.ep_base.specs.Cards.Images.{unasked, last_answer}
 use Rattle.ep_base.specs.Cards.Direct.{image_rules}
 use Rattle.ep_base.specs.Link.Wire.{by_commands, image_after}
 use Rattle.law_wire.proofs.Reading.{Sent}
 
 -- ---- images
 
-answered_append : (f : Activated → ℕ) (n : ℕ) (a : Answered × Image) (xs ys : List (List ℕ)) → answered (image_rules f) n a (xs ++ ys) ≡ answered (image_rules f) n (answered (image_rules f) n a xs) ys
+answered_append : (f : Activated → ℕ) (n : ℕ) (a : Answered × Image) (xs ys : List (List ℕ)) → last_answer (image_rules f) n a (xs ++ ys) ≡ last_answer (image_rules f) n (last_answer (image_rules f) n a xs) ys
 answered_append f n a [] ys = refl
 answered_append f n a (x ∷ xs) ys = answered_append f n (card_answer a.1 x) xs ys
 
 -- images don't ask for the card's number
-answered_any : (f g : Activated → ℕ) (n k : ℕ) (a : Answered × Image) (xs : List (List ℕ)) → answered (image_rules f) n a xs ≡ answered (image_rules g) k a xs
+answered_any : (f g : Activated → ℕ) (n k : ℕ) (a : Answered × Image) (xs : List (List ℕ)) → last_answer (image_rules f) n a xs ≡ last_answer (image_rules g) k a xs
 answered_any f g n k a [] = refl
 answered_any f g n k a (x ∷ xs) = answered_any f g n k (card_answer a.1 x) xs
 
 -- nor for the answer before
-answered_anew : (f : Activated → ℕ) (n : ℕ) (a : Answered × Image) (xs : List (List ℕ)) → (answered (image_rules f) n (unasked, a.1) xs).1 ≡ (answered (image_rules f) n a xs).1
+answered_anew : (f : Activated → ℕ) (n : ℕ) (a : Answered × Image) (xs : List (List ℕ)) → (last_answer (image_rules f) n (unasked, a.1) xs).1 ≡ (last_answer (image_rules f) n a xs).1
 answered_anew f n a [] = refl
 answered_anew f n a (x ∷ xs) = refl
 
@@ -32,7 +33,7 @@ answered_anew f n a (x ∷ xs) = refl
 pub after_after : (i : Image) (xs ys : List (List ℕ)) → image_after (image_after i xs) ys ≡ image_after i (xs ++ ys)
 after_after i xs ys =
     ap (λ (a : Answered × Image). a.1) (answered_any (λ card. (image_after i xs).number) (λ card. i.number) (image_after i xs).number i.number (unasked, image_after i xs) ys)
-    ∙ answered_anew (λ card. i.number) i.number (answered (image_rules (λ card. i.number)) i.number (unasked, i) xs) ys
+    ∙ answered_anew (λ card. i.number) i.number (last_answer (image_rules (λ card. i.number)) i.number (unasked, i) xs) ys
     ∙ sym (ap (λ (a : Answered × Image). a.1) (answered_append (λ card. i.number) i.number (unasked, i) xs ys))
 
 -- the next answer
@@ -66,7 +67,7 @@ answer_number : (i : Image) (command : List ℕ) → (card_answer i command).1.n
 unfolding card_answer
 answer_number i command = by_tests i command (is_select command) (same_bytes (command_data command) ppse_name)
 
-answered_number : (f : Activated → ℕ) (n : ℕ) (a : Answered × Image) (xs : List (List ℕ)) → (answered (image_rules f) n a xs).1.number ≡ a.1.number
+answered_number : (f : Activated → ℕ) (n : ℕ) (a : Answered × Image) (xs : List (List ℕ)) → (last_answer (image_rules f) n a xs).1.number ≡ a.1.number
 answered_number f n a [] = refl
 answered_number f n a (x ∷ xs) = answered_number f n (card_answer a.1 x) xs ∙ answer_number a.1 x
 
@@ -118,24 +119,24 @@ module _ (fsd : ℕ) (i : Image) (c : Card) where
   part_came true bytes = record { block = refl; card = refl; log = sym (append-nil c.log); unhalted = λ h. refl }
   part_came false bytes = executed_shifted (other c.number) bytes
 
-  ack_shifted : (left : Left) → Shifted c (on_ack left c) (on_ack left (unlogged c))
+  ack_shifted : (left : Unsent) → Shifted c (card_on_ack left c) (card_on_ack left (unlogged c))
   ack_shifted (Parts []) = mute_shifted
   ack_shifted (Parts (part ∷ others)) = part_shifted (other c.number) part others
   ack_shifted (Waits wtx wtxm first others) = mute_shifted
 
-  wtx_shifted : (left : Left) → Shifted c (on_wtx left c) (on_wtx left (unlogged c))
+  wtx_shifted : (left : Unsent) → Shifted c (card_on_wtx left c) (card_on_wtx left (unlogged c))
   wtx_shifted (Parts parts) = mute_shifted
   wtx_shifted (Waits zero wtxm first others) = part_shifted c.number first others
   wtx_shifted (Waits (suc wtx) wtxm first others) = record { block = refl; card = refl; log = sym (append-nil c.log); unhalted = λ h. refl }
 
   pub shifted : (b : Block) → Sent b → Shifted c (card_hears fsd (by_commands i) c b) (card_hears fsd (by_commands moved_on) (unlogged c) b)
   shifted (I k ch inf) s =
-      elim (nat_le (length (c.taken ++ inf)) 261) as (λ (x : Bool). Shifted c
+      elim (nat_le (length (c.taken ++ inf)) COMMAND) as (λ (x : Bool). Shifted c
       (if x then on_part fsd (by_commands i) c ch (c.taken ++ inf) else mute (dropped c))
       (if x then on_part fsd (by_commands moved_on) (unlogged c) ch (c.taken ++ inf) else mute (dropped (unlogged c))))
       [ true ↦ part_came ch (c.taken ++ inf) | false ↦ record { block = refl; card = refl; log = sym (append-nil c.log); unhalted = λ h. h } ]
   shifted (RAck k) s =
-      elim (same k c.number) as (λ (x : Bool). Shifted c (if x then again c else on_ack c.left c) (if x then again (unlogged c) else on_ack c.left (unlogged c)))
+      elim (same k c.number) as (λ (x : Bool). Shifted c (if x then again c else card_on_ack c.left c) (if x then again (unlogged c) else card_on_ack c.left (unlogged c)))
       [ true ↦ again_shifted | false ↦ ack_shifted c.left ]
   shifted (RNak k) s =
       elim (same k c.number) as (λ (x : Bool). Shifted c

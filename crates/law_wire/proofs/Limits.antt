@@ -2,21 +2,22 @@
 use Rattle.std.proofs.Common.{◌≡◌, ℕ, ◌-◌, ◌<◌, ◌≤◌, Bool, true, false, List, [], ◌∷◌, length, Option, Some, None, refl, sym, subst, arith, length-set}
 use Rattle.std.specs.Prelude.{min, unwrap_or, slice_get, slice_set, position, nat_eq, if◌then◌else◌}
 use Rattle.std.specs.List.{All, starts_with}
-use Rattle.std.proofs.lemmas.Bool.Decides.{nat_tests}
 use Rattle.std.proofs.lemmas.Option.{unwrap_or-slice_get, get_or_from_slice_get, slice_get_within, slice_get_past}
 use Rattle.std.proofs.lemmas.List.Elements.{All-set, All-get_or}
+use Rattle.ep_base.specs.declared.limits.TheConstants.{ANSWER_WAITS, COMMAND, RESPONSE}
 use Rattle.ep_base.specs.Air.Heard.{Activated}
-use Rattle.ep_base.specs.Cards.Apdu.{same_bytes, is_command, command_data, ppse_name, is_9000}
+use Rattle.ep_base.specs.Cards.Apdu.{same_bytes, command_data, ppse_name, is_9000}
 use Rattle.ep_base.specs.Cards.CardAnswer.{Answered, Answers, Rule, App, Image, IsResponse, AreAnswers, IsRule, IsApp, IsImage, IsAnswer, used_once, file_not_found, is_select, app_answer, app_selected, by_app, by_place, select_answer, ppse_answer, rule_used, app_with, by_rule, by_rule_place, app_executes, with_app, in_app, other_answer, card_answer}
 use Rattle.ep_base.specs.Cards.Direct.{image_rules}
-use Rattle.ep_base.specs.Cards.Images.{Rules, unasked, answered, image_from}
+use Rattle.ep_base.proofs.Sizes.{command_short}
+use Rattle.ep_base.specs.Cards.Images.{Rules, unasked, last_answer, image_from}
 use Rattle.law_link.specs.Once as Links
 
 -- rules whose states keep a fact under which every answer fits
 pub record Keeps {S : Type 0} (rules : Rules S) (Good : S → Type 0) : Type 0 where
-  pub commands : (command : List ℕ) → rules.is_command command ≡ true → length command ≤ 261
-  pub responses : (n : ℕ) (s : S) (command : List ℕ) → Good s → (2 ≤ length (rules.answers n s command).0.response) × (length (rules.answers n s command).0.response ≤ 258)
-  pub waits : (n : ℕ) (s : S) (command : List ℕ) → Good s → (rules.answers n s command).0.wtx ≤ 8
+  pub commands : (command : List ℕ) → rules.is_command command ≡ true → length command ≤ COMMAND
+  pub responses : (n : ℕ) (s : S) (command : List ℕ) → Good s → (2 ≤ length (rules.answers n s command).0.response) × (length (rules.answers n s command).0.response ≤ RESPONSE)
+  pub waits : (n : ℕ) (s : S) (command : List ℕ) → Good s → (rules.answers n s command).0.wtx ≤ ANSWER_WAITS
   pub stays : (n : ℕ) (s : S) (command : List ℕ) → Good s → Good (rules.answers n s command).1
   pub clears : (s : S) → Good s → Good (rules.deselected s)
 
@@ -24,16 +25,16 @@ module _ {S : Type 0} (rules : Rules S) (Good : S → Type 0) (are : Keeps rules
   -- every answer of a card fits, and its state stays good
   record Fine (a : Answered × S) : Type 0 where
     two : 2 ≤ length a.0.response
-    room : length a.0.response ≤ 258
-    few : a.0.wtx ≤ 8
+    room : length a.0.response ≤ RESPONSE
+    few : a.0.wtx ≤ ANSWER_WAITS
     good : Good a.1
 
-  all_fine : (n : ℕ) (a : Answered × S) (commands : List (List ℕ)) → Fine a → Fine (answered rules n a commands)
+  all_fine : (n : ℕ) (a : Answered × S) (commands : List (List ℕ)) → Fine a → Fine (last_answer rules n a commands)
   all_fine n a [] fine = fine
   all_fine n a (c ∷ commands) fine =
       all_fine n (rules.answers n a.1 c) commands (record { two = (are.responses n a.1 c fine.good).0; room = (are.responses n a.1 c fine.good).1; few = are.waits n a.1 c fine.good; good = are.stays n a.1 c fine.good })
 
-  fine_from : (n : ℕ) (s : S) (commands : List (List ℕ)) → Good s → Fine (answered rules n (unasked, s) commands)
+  fine_from : (n : ℕ) (s : S) (commands : List (List ℕ)) → Good s → Fine (last_answer rules n (unasked, s) commands)
   fine_from n s commands good = all_fine n (unasked, s) commands (record { two = omega arith; room = omega arith; few = omega arith; good = good })
 
   is_image : (n : ℕ) (s : S) → Good s → Links.IsImage (image_from rules n s)
@@ -110,7 +111,7 @@ with_app_keeps i n a h g = record {
 -- an answer that fits, after which what gave it keeps to its limits
 record Fits {X : Type 0} (P : X → Type 0) (a : Answered × X) : Type 0 where
   response : IsResponse a.0.response
-  waits : a.0.wtx ≤ 8
+  waits : a.0.wtx ≤ ANSWER_WAITS
   wtxm_least : 1 ≤ a.0.wtxm
   wtxm_most : a.0.wtxm ≤ 59
   within : P a.1
@@ -199,13 +200,9 @@ answer_is i command w = record {
   wtxm_most = (answer_fits i w command).wtxm_most;
 }
 
-command_room : (command : List ℕ) → is_command command ≡ true → length command ≤ 261
-unfolding is_command
-command_room command e = grind (arith, nat_tests)
-
 pub images_keep : (number_of : Activated → ℕ) → Keeps (image_rules number_of) IsImage
 images_keep number_of = record {
-  commands = command_room;
+  commands = command_short;
   responses = λ n i command w. ((answer_fits i w command).response.least, (answer_fits i w command).response.most);
   waits = λ n i command w. (answer_fits i w command).waits;
   stays = λ n i command w. (answer_fits i w command).within;

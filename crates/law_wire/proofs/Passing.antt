@@ -68,15 +68,15 @@ module _ (kind : CardKind) (b : Block) where
         listens p (same_wave (wave_of_kind kind) (wave_of_kind p.kind) && not (is_halted p.card)) (not hit) (takes_opened p (opened (wave_of_kind kind) bytes))
         (ap (λ (o : Option (List ℕ)). takes_opened p o) e ∙ takes_it hit)
 
-    leg_down : (leg : Way) → IsWay leg → (d : Bool) × (takes_down p (wave_of_kind kind) (comes_down leg (wave_of_kind kind) frame) ≡ went d p)
-    leg_down Passes l = takes_whole frame false (opened_spelled kind b)
-    leg_down Loses l = (false, refl)
-    leg_down (Bursts start mask) l =
+    way_down : (leg : Way) → IsWay leg → (d : Bool) × (takes_down p (wave_of_kind kind) (comes_down leg (wave_of_kind kind) frame) ≡ went d p)
+    way_down Passes l = takes_whole frame false (opened_spelled kind b)
+    way_down Loses l = (false, refl)
+    way_down (Bursts start mask) l =
         let heard : burst_down start mask (wave_of_kind kind) frame ≡ Some (after_burst (wave_of_kind kind) start mask frame) =
         ap (λ (x : Bool). if x && hits (wave_of_kind kind) start mask frame then None else Some (after_burst (wave_of_kind kind) start mask frame)) (not_bare kind) in
         let taken = takes_whole (after_burst (wave_of_kind kind) start mask frame) (hits (wave_of_kind kind) start mask frame) (burst_opened start mask l (hits (wave_of_kind kind) start mask frame) refl) in
         (taken.0, ap (λ (o : Option (List ℕ)). takes_down p (wave_of_kind kind) o) heard ∙ taken.1)
-    leg_down Leaves l = (false, refl)
+    way_down Leaves l = (false, refl)
 
     -- and so where no frame comes down
     comes_or_not : (c : Bool) (o : Option (List ℕ)) → (d : Bool) × (takes_down p (wave_of_kind kind) o ≡ went d p) → (d : Bool) × (takes_down p (wave_of_kind kind) (if c then o else None) ≡ went d p)
@@ -104,14 +104,14 @@ module _ (kind : CardKind) (b : Block) where
     heard_hit start mask few false e =
         ap (λ (bytes : List ℕ). heard_block kind fsd (Frame (wave_of_kind kind) bytes)) (after_burst-missed (wave_of_kind kind) start mask frame e) ∙ heard_whole
 
-    leg_up : (leg : Way) → IsWay leg → (up : Bool) × (heard_block kind fsd (comes_back leg (Frame (wave_of_kind kind) frame)) ≡ comes_up up (Some b))
-    leg_up Passes l = (true, heard_whole)
-    leg_up Loses l = (false, refl)
-    leg_up (Bursts start mask) l =
+    way_up : (leg : Way) → IsWay leg → (up : Bool) × (heard_block kind fsd (comes_back leg (Frame (wave_of_kind kind) frame)) ≡ comes_up up (Some b))
+    way_up Passes l = (true, heard_whole)
+    way_up Loses l = (false, refl)
+    way_up (Bursts start mask) l =
         let heard : burst_up start mask (Frame (wave_of_kind kind) frame) ≡ Frame (wave_of_kind kind) (after_burst (wave_of_kind kind) start mask frame) =
         ap (λ (x : Bool). if x && hits (wave_of_kind kind) start mask frame then Noise else Frame (wave_of_kind kind) (after_burst (wave_of_kind kind) start mask frame)) (not_bare kind) in
         (not (hits (wave_of_kind kind) start mask frame), ap (heard_block kind fsd) heard ∙ heard_hit start mask l (hits (wave_of_kind kind) start mask frame) refl)
-    leg_up Leaves l = (false, refl)
+    way_up Leaves l = (false, refl)
 
 -- where every frame passes, the next one does
 pub next_pass : (fates : List Fate) → AllPass fates → ((next_fate fates).down ≡ Passes) × ((next_fate fates).up ≡ Passes) × AllPass (fates_after fates)
@@ -119,16 +119,16 @@ next_pass [] all = (refl, refl, tt)
 next_pass (f ∷ fates) all = all
 
 -- the next fate, and those after it
-pub next_legs : (fates : List Fate) → AreFates fates → IsWay (next_fate fates).down × IsWay (next_fate fates).up × AreFates (fates_after fates)
-next_legs [] a = (tt, tt, tt)
-next_legs (f ∷ fates) a = a
+pub next_ways : (fates : List Fate) → AreFates fates → IsWay (next_fate fates).down × IsWay (next_fate fates).up × AreFates (fates_after fates)
+next_ways [] a = (tt, tt, tt)
+next_ways (f ∷ fates) a = a
 
 -- the card takes the block that was sent, or nothing
 pub down_law : (kind : CardKind) (w : Wire) (b : Block) → is_block b ≡ true → AreFates w.air.fates
     → (d : Bool) × (wire_heeds w (wave_of_kind kind) (sealed (wave_of_kind kind) (spelled b)) ≡ went kind b d w.party)
 down_law kind w b is fates =
     comes_or_not kind b w.party is (not w.air.gone && nat_lt (length w.log) w.room) (comes_down (next_fate w.air.fates).down (wave_of_kind kind) (sealed (wave_of_kind kind) (spelled b)))
-    (leg_down kind b w.party is (next_fate w.air.fates).down (next_legs w.air.fates fates).0)
+    (way_down kind b w.party is (next_fate w.air.fates).down (next_ways w.air.fates fates).0)
 
 -- a card that is there, and listens, takes the block where the frame passes and the log has a free record
 pub takes_passed : (kind : CardKind) (w : Wire) (b : Block) → is_block b ≡ true → w.party.kind ≡ kind → is_halted w.party.card ≡ false
@@ -165,7 +165,7 @@ silent kind fsd Leaves = refl
 pub up_law : (kind : CardKind) (fsd : ℕ) (o : Option Block) → MaySend fsd o → (leg : Way) → IsWay leg
     → (up : Bool) × (heard_block kind fsd (comes_back leg (aired (maybe_frame kind o))) ≡ comes_up up o)
 up_law kind fsd None may leg l = (true, silent kind fsd leg)
-up_law kind fsd (Some b) may leg l = leg_up kind b fsd (sent_block b may.0) may.1 leg l
+up_law kind fsd (Some b) may leg l = way_up kind b fsd (sent_block b may.0) may.1 leg l
 
 -- where its frame passes, the reader hears it
 pub hears_passed : (kind : CardKind) (fsd : ℕ) (o : Option Block) → MaySend fsd o → heard_block kind fsd (aired (maybe_frame kind o)) ≡ comes_up true o
@@ -189,7 +189,7 @@ by_up b h false e = inr e
 
 pub heard_or_bad : HeardWhole
 heard_or_bad kind fsd b leg is fits l =
-    let x = leg_up kind b fsd is fits leg l in
+    let x = way_up kind b fsd is fits leg l in
     by_up b (heard_block kind fsd (comes_back leg (Frame (wave_of_kind kind) (sealed (wave_of_kind kind) (spelled b))))) x.0 x.1
 
 pub nothing_is_bad : NothingIsBad

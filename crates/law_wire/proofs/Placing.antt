@@ -1,7 +1,7 @@
 -- What both ends send at each place of an open command.
 use Rattle.std.proofs.Common.{ℕ, ◌≤◌, Bool, List, refl, sym, subst, ⊎_elim, arith}
 use Rattle.ep_base.specs.Link.Block.{ReadBlock, frame_length, other}
-use Rattle.ep_base.specs.Link.CardEnd.{Image}
+use Rattle.ep_base.specs.Link.CardEnd.{CommandRules}
 use Rattle.ep_base.specs.Link.OneLink.{Frames}
 use Rattle.ep_base.specs.Link.ReaderEnd.{question}
 use Rattle.law_link.specs.Once.{IsImage, AreFrames}
@@ -9,7 +9,7 @@ use Rattle.law_link.proofs.Cutting.{cut_fits}
 use Rattle.law_link.proofs.Exchange.{Place, Before, Between, Working, Replied, Asking, Given, after, reply, phase_at, answer_at, Fine, Fits, Answers}
 use Rattle.law_wire.proofs.Reading.{Sent}
 
-module _ (frames : Frames) (image : Image) (before : List (List ℕ)) (command : List ℕ) (sized : AreFrames frames) (is : IsImage image)
+module _ (frames : Frames) (image : CommandRules) (before : List (List ℕ)) (command : List ℕ) (sized : AreFrames frames) (is : IsImage image)
     (wtxm_least : 1 ≤ (reply frames image before command).wtxm) (wtxm_most : (reply frames image before command).wtxm ≤ 59) where
   -- the reader's block
   pub asked_sent : (m : Bool) (place : Place) (s : List ReadBlock) → Fits frames image before command m place s → Sent (question (other m) (phase_at frames image before command place) s)

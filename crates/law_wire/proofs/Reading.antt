@@ -9,7 +9,7 @@ use Rattle.ep_base.specs.Air.Heard.{wave_of_kind}
 use Rattle.ep_base.specs.Air.Check.{crc_a, crc_b}
 use Rattle.ep_base.specs.Air.Frame.{check_bytes, sealed, opened}
 use Rattle.ep_base.specs.Link.Block.{Block, I, RAck, RNak, Deselect, Wtx, frame_length}
-use Rattle.ep_base.specs.Link.Spelling.{spelled, is_block, announced, Reads, read_block, read_wtx_byte}
+use Rattle.ep_base.specs.Link.Spelling.{spelled, is_block, pcb_kind, Reads, read_block, read_wtx_byte}
 use Rattle.rf_frame.proofs.Opening.{opened_sealed}
 
 -- a block that an end of a link sends while a command is open: it has a spelling, no power bits, and isn't S(DESELECT)
@@ -37,7 +37,7 @@ wtx_byte p m least most =
 
 -- a block's bytes are read as that block
 pub spelled_reads : (b : Block) → is_block b ≡ true → read_block (spelled b) ≡ Reads b
-unfolding announced
+unfolding pcb_kind
 spelled_reads (I false false inf) s = refl
 spelled_reads (I true false inf) s = refl
 spelled_reads (I false true inf) s = refl

@@ -4,7 +4,7 @@ use Rattle.ep_base.specs.Cards.Apdu.{is_command}
 use Rattle.ep_base.specs.Air.Heard.{Heard}
 use Rattle.ep_base.specs.Link.LinkFrames.{LinkSetting}
 use Rattle.ep_base.specs.Air.Medium.{MediumSteps}
-use Rattle.ep_base.specs.Link.ReaderEnd.{Reader, Turn, begin}
+use Rattle.ep_base.specs.Link.ReaderEnd.{Reader, ReaderTurn, begin}
 use Rattle.ep_base.specs.Link.Wire.{Wire}
 use Rattle.ep_base.specs.Link.Carry.{ActsAs, AtRest, OfLink, Follows, OnceSo}
 
@@ -12,7 +12,7 @@ use Rattle.ep_base.specs.Link.Carry.{ActsAs, AtRest, OfLink, Follows, OnceSo}
 -- (this project's own).
 abbrev pub CarriedAlike : {S : Type 0} → MediumSteps S → Type 0
 CarriedAlike {S = S} steps =
-    (set : LinkSetting) (good : S → Bool) (shown : S → Wire) (s : S) (r : Reader) (command : List ℕ) (hs : List Heard) (turn : Turn) (t : S) →
+    (set : LinkSetting) (good : S → Bool) (shown : S → Wire) (s : S) (r : Reader) (command : List ℕ) (hs : List Heard) (turn : ReaderTurn) (t : S) →
     ActsAs steps set good shown → good s ≡ true → OfLink set (shown s) → AtRest r (shown s).party.card → is_command command ≡ true →
     Follows steps set hs (begin set.frames.card command r) s turn t →
     OnceSo (shown s) command turn (shown t) × (good t ≡ true)

@@ -35,7 +35,7 @@ pub fn closes_quietly()
 /// before its end it was executed at most once. No block is ever outside the rules.
 ///
 /// The card is an image within a document's limits, bursts have at most sixteen bits, frames have at least 16 bytes
-/// and the reader's at most 256, the log has two free records, and the link is between two commands.
+/// and the reader's at most `FRAME`, the log has two free records, and the link is between two commands.
 pub fn carried_once()
     ensures { CarriedOnce }
 {}

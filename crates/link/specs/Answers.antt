@@ -1,6 +1,6 @@
 -- What the answers of a transport stand for in plain data (this project's own).
 use Rattle.std.specs.Prelude.{ℕ, List, Result, Ok, Err}
-use Rattle.ep_base.specs.Poll.Transport.{Presentation, Here, Nobody, Gone, Reply, Answered, Breached, Lost}
+use Rattle.ep_base.specs.Poll.Transport.{PresentResult, Here, Nobody, Gone, Reply, Answered, Breached, Lost}
 use Rattle.ep_base.specs.Poll.Transport as plain
 use Rattle.link.specs.declared.transport.Presented.{Presented}
 use Rattle.link.specs.declared.transport.PresentEnd.{PresentEnd}
@@ -9,7 +9,7 @@ use Rattle.link.specs.declared.transport.PresentEnd.TheVariants as present
 use Rattle.block_reader.specs.declared.ends.LinkEnd.{LinkEnd}
 use Rattle.block_reader.specs.declared.ends.LinkEnd.TheVariants as ending
 
-abbrev pub presentation_of : Result Presented PresentEnd → Presentation
+abbrev pub presentation_of : Result Presented PresentEnd → PresentResult
 presentation_of (Ok p) = Here p.collision p.card
 presentation_of (Err (NoCard collision)) = Nobody collision
 presentation_of (Err present.Device) = Gone

@@ -4,7 +4,7 @@ use Rattle.std.specs.Prelude.{◌≡◌, ℕ, List, [], ◌∷◌, ◌++◌, Opt
 use Rattle.ep_base.specs.Air.Heard.{Heard}
 use Rattle.ep_base.specs.Link.Block.{is_bad, count}
 use Rattle.ep_base.specs.Air.Medium.{MediumSteps}
-use Rattle.ep_base.specs.Link.ReaderEnd.{Reader, Turn, Asks, Gives, Spends, Breaks, asked, begin}
+use Rattle.ep_base.specs.Link.ReaderEnd.{Reader, ReaderTurn, Asks, Gives, Spends, Breaks, asked, begin}
 use Rattle.ep_base.specs.Link.LinkFrames.{BreachData, breach_of}
 use Rattle.ep_base.specs.Link.Carry.{SendsBlock, Follows}
 use Rattle.ep_base.specs.Poll.Radio.{OpenLink}
@@ -14,7 +14,7 @@ use Rattle.block_reader.specs.declared.ends.LinkEnd.TheVariants.{Spent, Breach, 
 module _ {S : Type 0} (steps : MediumSteps S) (l : OpenLink) (command : List ℕ) (s : S) where
   -- Each of these hearings is the medium's answer to the block that the reader asks then. From the reader that has begun the command they lead to
   -- this turn of its table.
-  abbrev pub Leads : List Heard → Turn → S → Type 0
+  abbrev pub Leads : List Heard → ReaderTurn → S → Type 0
   Leads hearings turn t = Follows steps l.set hearings (begin l.set.frames.card command l.reader) s turn t
 
   -- The response came whole, and the link is open for the next command.

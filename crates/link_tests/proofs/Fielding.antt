@@ -1,5 +1,5 @@
 -- A reader at a field: what presentations, commands and closings leave.
-use Rattle.std.proofs.Common.{◌≡◌, ◌⊎◌, ℕ, zero, suc, ◌+◌, ◌≤◌, ◌&&◌, Bool, true, false, is_some, IfOk, List, [], ◌∷◌, ◌++◌, length, Option, Some, None, Result, Ok, Err, refl, sym, ap, ◌∙◌, subst}
+use Rattle.std.proofs.Common.{◌≡◌, ℕ, zero, suc, ◌+◌, ◌≤◌, Bool, true, false, is_some, IfOk, List, [], ◌∷◌, ◌++◌, length, Option, Some, None, Result, Ok, Err, refl, sym, ap, ◌∙◌, subst}
 use Rattle.std.proofs.lemmas.Bool.{and_parts}
 use Rattle.ep_base.specs.declared.air.CardKind.{CardKind}
 use Rattle.ep_base.specs.Link.Block.{Block, Deselect}
@@ -15,9 +15,9 @@ use Rattle.ep_base.specs.Link.LinkFrames.{LinkSetting}
 use Rattle.ep_base.specs.Air.Medium.{told}
 use Rattle.ep_base.specs.Poll.Polling.{PlaysRound, Polled, Came, NoCard, Device}
 use Rattle.ep_base.specs.Poll.Radio.{ClosesOver, LinkTransacts, OpenLink, Polls, Radio, RadioPresents, TransactsOver, link_to}
-use Rattle.ep_base.specs.Link.ReaderEnd.{Reader, Turn, Asks, Gives, Spends, Breaks, asked, begin}
+use Rattle.ep_base.specs.Link.ReaderEnd.{Reader, ReaderTurn, Gives, Spends, Breaks, asked, begin}
 use Rattle.ep_base.specs.Link.Spelling.{spelled}
-use Rattle.ep_base.specs.Poll.Transport.{Presentation, Here, Nobody, Gone, Reply, Answered, Breached, Lost}
+use Rattle.ep_base.specs.Poll.Transport.{PresentResult, Here, Nobody, Gone, Reply, Answered, Breached, Lost}
 use Rattle.ep_base.specs.Poll.Transport as plain
 use Rattle.ep_base.specs.Link.Wire.{Party}
 use Rattle.block_reader.specs.Stands.{held}
@@ -26,18 +26,20 @@ use Rattle.link.specs.Answers.{presentation_of}
 use Rattle.link.specs.declared.transport.Presented.{Presented}
 use Rattle.link.specs.declared.transport.PresentEnd.{PresentEnd}
 use Rattle.link.specs.declared.transport.PresentEnd.TheVariants as present
-use Rattle.law_round.specs.Acting.{is_link, linked_at, are_passages, is_open, party_at, shown, without}
+use Rattle.law_round.specs.Acting.{is_link, linked_at, are_fates, is_open, party_at, shown}
 use Rattle.law_round.specs.Inside.{is_out, all_out}
-use Rattle.ep_base.specs.Cards.Lawful.{ArePlaced, IsPlaced, Lawful, faces, names}
+use Rattle.ep_base.specs.Cards.Lawful.{ArePlaced, Lawful}
+use Rattle.ep_base.specs.declared.limits.TheConstants.{ROUNDS}
 use Rattle.law_round.specs.Linked.{HasLink}
 use Rattle.law_round.specs.Polled.{SameCards}
-use Rattle.law_round.proofs.Acting.{Place, Link, from_link, passages_truth}
+use Rattle.law_round.proofs.Acting.{Place, Link, from_link, fates_truth}
 use Rattle.law_round.proofs.Carrying.{along, leaves_others_law}
 use Rattle.law_round.proofs.Closing.{closes_quietly_law}
 use Rattle.law_round.proofs.Lawfulness.{stays_lawful_law}
 use Rattle.law_round.proofs.Linking.{links_one_law, keeps_cards_law}
 use Rattle.law_round.proofs.Polling.{polls_quietly_law}
-use Rattle.law_round.proofs.Sizing.{frame_sized, round_sized}
+use Rattle.ep_base.proofs.Sizes.{frame_sized}
+use Rattle.law_round.proofs.Sizing.{round_sized}
 use Rattle.block_reader.specs.declared.ends.LinkEnd.{LinkEnd}
 use Rattle.block_reader.specs.declared.ends.LinkEnd.TheVariants.{Spent, Breach}
 use Rattle.block_reader.specs.declared.ends.LinkEnd.TheVariants as ending
@@ -47,8 +49,8 @@ use Rattle.link_tests.specs.OneCommand.{IsLinked, IsUsable, LinksTo, OneCommand,
 
 -- ---- presentations
 
-at_rest : (c : Card) → c ≡ fresh_card → AtRest dialogue.opened c
-at_rest c e = subst (λ x. AtRest dialogue.opened x) (sym e) (record { differ = refl; closed = refl; fresh = refl; none_taken = refl; none_left = refl; none_logged = refl; unhalted = refl })
+at_rest : (c : Card) → c ≡ fresh_card → AtRest dialogue.opened_reader c
+at_rest c e = subst (λ x. AtRest dialogue.opened_reader x) (sym e) (record { differ = refl; closed = refl; fresh = refl; none_taken = refl; none_left = refl; none_logged = refl; unhalted = refl })
 
 linked_there : (kind : CardKind) (before : List Placed) (one : Placed) (after : List Placed) → is_link kind false one ≡ true → all_out before ≡ true → all_out after ≡ true
     → linked_at kind false (length before) (before ++ one ∷ after) ≡ true
@@ -79,10 +81,10 @@ opens fsdi s t card l x =
     let is_link_true : is_link card.kind false y.1 ≡ true = from_link card.kind false y.1 (fresh_link fsdi card y.1 y.4) in
     let linked : linked_at card.kind t.air.gone n t.cards ≡ true =
     ap (λ gone. linked_at card.kind gone n t.cards) y.7 ∙ ap (λ ps. linked_at card.kind false n ps) y.3 ∙ linked_there card.kind y.0 y.1 y.2 is_link_true y.5 y.6 in
-    let passages : are_passages t.air.fates ≡ true = passages_truth t.air.fates kept.4.fates in
+    let exchange_fates : are_fates t.air.fates ≡ true = fates_truth t.air.fates kept.4.fates in
     let sized = frame_sized fsdi in
     let linked_card : IsLinked (link_to fsdi card) n t = record {
-      is = rw (linked, passages) refl;
+      is = rw (linked, exchange_fates) refl;
       kind = ap (λ (p : Party). p.kind) party ∙ y.4.link_kind;
       frame = ap (λ (p : Party). p.fsd) party ∙ y.4.frame;
       card_least = (round_sized (told field) fsdi s t card x).0;
@@ -100,18 +102,18 @@ record Polling (fsdi : ℕ) (s t : Field) (polled : Polled) : Type 0 where
 
 polling : (s t : Radio Field) (collided : Bool) (polled : Polled) → Lawful s.medium → Polls (told field) s collided polled t → Polling s.fsdi s.medium t.medium polled
 polling s t collided polled l p =
-    let q = polls_quietly_law s.fsdi 64 s.medium t.medium p.ends polled l p.plays in
+    let q = polls_quietly_law s.fsdi ROUNDS s.medium t.medium p.ends polled l p.plays in
     record { lawful = q.1; same = q.2; ends = q.0 }
 
 pub found : (s t : Radio Field) (collided : Bool) (card : Activated) → Lawful s.medium → RadioPresents (told field) s (Here collided card) t → LinksTo s.fsdi card t.medium
 found s t collided card l x =
-    let q = polls_quietly_law s.fsdi 64 s.medium t.medium x.0.ends (Came card) l x.0.plays in
+    let q = polls_quietly_law s.fsdi ROUNDS s.medium t.medium x.0.ends (Came card) l x.0.plays in
     opens s.fsdi q.3.0 t.medium card q.3.1 q.3.3
 
 no_link : (t : Radio Field) (l : OpenLink) → t.link ≡ None → t.link ≡ Some l → ⊥
 no_link t l none some = cc (none, some)
 
-pub same_cards : (s t : Radio Field) (p : Presentation) → Lawful s.medium → RadioPresents (told field) s p t → SameCards s.medium t.medium
+pub same_cards : (s t : Radio Field) (p : PresentResult) → Lawful s.medium → RadioPresents (told field) s p t → SameCards s.medium t.medium
 same_cards s t (Here collided card) l x = (polling s t collided (Came card) l x.0).same
 same_cards s t (Nobody collided) l x = (polling s t collided NoCard l x.0).same
 same_cards s t Gone l x = (polling s t x.0.0 Device l x.0.1).same
@@ -124,14 +126,14 @@ linked_to s t card links y l is =
     let same : link_to s.fsdi card ≡ l = cc (links, is) in
     (length y.0, subst (λ (k : OpenLink). IsLinked k (length y.0) t.medium) same y.5)
 
-pub still_usable : (s t : Radio Field) (p : Presentation) → Lawful s.medium → RadioPresents (told field) s p t → IsUsable t
+pub still_usable : (s t : Radio Field) (p : PresentResult) → Lawful s.medium → RadioPresents (told field) s p t → IsUsable t
 still_usable s t (Here collided card) l x =
     record { lawful = (polling s t collided (Came card) l x.0).lawful; linked = linked_to s t card x.1.links (found s t collided card l x) }
 still_usable s t (Nobody collided) l x =
     record { lawful = (polling s t collided NoCard l x.0).lawful; linked = λ k is. absurd (no_link t k x.1.links is) }
 still_usable s t Gone l x = absurd (never_gone s t l x)
 
-pub same_reader : (s t : Radio Field) (p : Presentation) → RadioPresents (told field) s p t → t.fsdi ≡ s.fsdi
+pub same_reader : (s t : Radio Field) (p : PresentResult) → RadioPresents (told field) s p t → t.fsdi ≡ s.fsdi
 same_reader s t (Here collided card) x = x.1.same
 same_reader s t (Nobody collided) x = x.1.same
 same_reader s t Gone x = x.1.same
@@ -168,7 +170,7 @@ of_link l n f i lawful room = record {
   card_least = i.card_least;
   reader_least = i.reader_least;
   reader_most = i.reader_most;
-  image = image_at l.set.kind f.air.gone n f.cards (and_parts (linked_at l.set.kind f.air.gone n f.cards) (are_passages f.air.fates) i.is).0 lawful.cards;
+  image = image_at l.set.kind f.air.gone n f.cards (and_parts (linked_at l.set.kind f.air.gone n f.cards) (are_fates f.air.fates) i.is).0 lawful.cards;
   fates = lawful.fates;
   room = room;
 }
@@ -183,7 +185,7 @@ same_room set s t b heard sends =
     let e : field_send s (wave_of_kind set.kind) (sealed (wave_of_kind set.kind) (spelled b)) ≡ (heard, t) = sends in
     sym (ap (λ (x : Option Heard × Field). x.1.room) e)
 
-leaves : (l : OpenLink) (n : ℕ) (f : Field) (r : Reader) (hs : List Heard) (turn : Turn) (t : Field) → is_open l.set.kind n f ≡ true → Lawful f → Follows (told field) l.set hs r f turn t → Leaves n f t
+leaves : (l : OpenLink) (n : ℕ) (f : Field) (r : Reader) (hs : List Heard) (turn : ReaderTurn) (t : Field) → is_open l.set.kind n f ≡ true → Lawful f → Follows (told field) l.set hs r f turn t → Leaves n f t
 leaves l n f r hs turn t is lawful x =
     let y = leaves_others_law l.set n f t r hs turn is lawful x in
     let room : t.room ≡ f.room = along l.set n (λ u. u.room ≡ f.room) (λ u v b heard g sends p. same_room l.set u v b heard sends ∙ p) hs r f turn t is refl x in

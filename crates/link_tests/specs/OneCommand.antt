@@ -1,5 +1,5 @@
 -- A reader at a field of a document's cards: which card has its open link, and what a command and a closing come to (this project's own).
-use Rattle.std.specs.Prelude.{◌≡◌, ◌⊎◌, ℕ, ◌≤◌, true, false, List, [], ◌∷◌, ◌++◌, length, Option, Some, None, Result, Ok, Err}
+use Rattle.std.specs.Prelude.{◌≡◌, ◌⊎◌, ℕ, ◌≤◌, true, List, [], ◌∷◌, ◌++◌, length, Option, Some, None, Result, Ok, Err}
 use Rattle.ep_base.specs.Link.Block.{Deselect}
 use Rattle.ep_base.specs.Cards.CardAnswer.{card_answer}
 use Rattle.ep_base.specs.Link.Carry.{AtRest}
@@ -12,6 +12,7 @@ use Rattle.ep_base.specs.Link.ReaderEnd.{Reader}
 use Rattle.ep_base.specs.Link.Spelling.{spelled}
 use Rattle.law_round.specs.Acting.{is_open, party_at, without}
 use Rattle.ep_base.specs.Cards.Lawful.{Lawful, faces, names}
+use Rattle.ep_base.specs.declared.limits.TheConstants.{FRAME}
 use Rattle.law_round.specs.Linked.{HasLink}
 use Rattle.block_reader.specs.declared.ends.LinkEnd.{LinkEnd}
 use Rattle.block_reader.specs.declared.ends.LinkEnd.TheVariants.{Spent, Breach, Device}
@@ -32,7 +33,7 @@ pub record IsLinked (l : OpenLink) (n : ℕ) (f : plain.Field) : Type 0 where
   pub frame : (party_at n f.cards).fsd ≡ l.set.frames.reader
   pub card_least : 16 ≤ l.set.frames.card
   pub reader_least : 16 ≤ l.set.frames.reader
-  pub reader_most : l.set.frames.reader ≤ 256
+  pub reader_most : l.set.frames.reader ≤ FRAME
   pub rest : AtRest l.reader (party_at n f.cards).card
 
 -- The field is one of a document's cards, and an open link is one with a card of it (this project's own).

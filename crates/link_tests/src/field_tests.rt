@@ -9,7 +9,7 @@ use crate::tests::{SELECT_APP, answer_lost, app, many_losses};
 use apdu::Command;
 use arrayvec::ArrayVec;
 use card_image::CardImage;
-use ep_base::{FrameBuf, Wave};
+use ep_base::{COMMAND, FrameBuf, RESPONSE, Wave};
 use link::{LinkEnd, RfTransport, Transport};
 use rf_field::{BPlan, CardPlan, FateRun, Field};
 use rf_frame::{Heard, Medium, RfFailed, copy_frame};
@@ -81,15 +81,15 @@ fn smallest_frames(alloc: Global, response: &[u8], fates: Vec<FateRun>) -> Resul
 }
 
 // A response of 258 bytes, and a command of 261.
-fn longest_response() -> [u8; 258] {
-    let mut response = [0x5au8; 258];
+fn longest_response() -> [u8; RESPONSE] {
+    let mut response = [0x5au8; RESPONSE];
     response[252] = 1;
     response[253] = 2;
     response
 }
 
 fn longest_command() -> Result<Command, Fail> {
-    let mut command = [0u8; 261];
+    let mut command = [0u8; COMMAND];
     command[0] = 0x80;
     command[4] = 0xff;
     let command = Command::of(&command).map_err(|_| "no command")?;

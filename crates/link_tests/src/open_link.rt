@@ -3,13 +3,13 @@ ghost use Rattle.std.specs.Prelude.{◌≡◌, ◌<◌, ◌≤◌, ◌+◌, All,
 ghost use Rattle.link.specs.Carried.{ByWire};
 ghost use Rattle.ep_base.specs.Air.FrameSize as sizes;
 ghost use Rattle.ep_base.specs.Link.Wire.{new_wire};
-ghost use Rattle.rf_field.specs.Meaning.{IsRun, passages};
+ghost use Rattle.rf_field.specs.Meaning.{IsRun, exchange_fates};
 ghost use Rattle.link_tests.specs.Open.{end_of, far_end, IsReady};
 
 use apdu::{Command, Response};
 use block_reader::ReaderEnd;
 use card_image::{CardImage, CardLog};
-use ep_base::{NoMemory, frame_size};
+use ep_base::{FRAME, NoMemory, frame_size};
 use link::{LinkEnd, carry};
 use rf_field::{FateRun, Wire};
 use rf_frame::Activated;
@@ -37,12 +37,12 @@ impl OpenLink {
     ) -> Result<OpenLink, NoMemory>
         requires code { fsdi < 16 }
         requires least { 16 ≤ card.now.fsc }
-        requires most { card.now.fsc ≤ 256 }
+        requires most { card.now.fsc ≤ FRAME }
         requires fwi { card.now.fwi ≤ 14 }
         requires runs { All IsRun fates.items }
         requires room { 2 ≤ room }
         ensures ready { IfOk result (λ l. IsReady (end_of l) (far_end l)) }
-        ensures card { IfOk result (λ l. far_end l ≡ new_wire card.now.kind (sizes.frame_size fsdi) image (passages fates.items) room) }
+        ensures card { IfOk result (λ l. far_end l ≡ new_wire card.now.kind (sizes.frame_size fsdi) image (exchange_fates fates.items) room) }
     {
         let _number = image.number();
         let end = ReaderEnd::open(card, fsdi);

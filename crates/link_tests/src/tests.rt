@@ -9,7 +9,7 @@ use apdu::{Command, Response};
 use arrayvec::ArrayVec;
 use block_reader::ReaderEnd;
 use card_image::{App, CardImage, Rule};
-use ep_base::{CardKind, FrameBuf, Wave};
+use ep_base::{COMMAND, CardKind, FRAME, FrameBuf, RESPONSE, Wave};
 use link::{LinkEnd, carry};
 use rf_field::{Fate, FateRun, Way, Wire};
 use rf_frame::{Activated, Heard, Medium, RfFailed, copy_frame};
@@ -220,7 +220,7 @@ fn selected(
     wtx: u8,
     fates: Vec<FateRun>,
 ) -> Result<(ReaderEnd, Recorder), Fail>
-    requires size { (16 ≤ fsc) × (fsc ≤ 256) }
+    requires size { (16 ≤ fsc) × (fsc ≤ FRAME) }
     requires waits { wtx ≤ 8 }
     requires runs { All IsRun fates.items }
     ensures rests { IfOk result (λ p. is_resting (held p.0) ≡ true) }
@@ -269,10 +269,10 @@ fn count_of(medium: &Recorder, pcbs: [u8; 2]) -> usize {
 
 #[test]
 fn the_longest_command_in_the_smallest_frames(rt: HostRuntime) -> Result<(), Fail> {
-    let mut response = [0x5au8; 258];
+    let mut response = [0x5au8; RESPONSE];
     response[252] = 1;
     response[253] = 2;
-    let mut command = [0u8; 261];
+    let mut command = [0u8; COMMAND];
     command[0] = 0x80;
     command[4] = 0xff;
     let fates = many_losses(rt.alloc(), 1)?;

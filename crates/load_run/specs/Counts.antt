@@ -4,16 +4,14 @@ use Rattle.std.specs.List.{flat_map, last_or}
 use Rattle.ep_base.specs.declared.outcome.OutcomeKind.{OutcomeKind}
 use Rattle.ep_base.specs.declared.outcome.OutcomeKind.TheVariants.{SelectNext, TryAgain, Approved, Declined, OnlineRequest, TryAnother, EndApplication}
 use Rattle.ep_rules.specs.EntryPoint.Configuration.{Config}
-use Rattle.ep_rules.specs.EntryPoint.Transaction.{transaction}
-use Rattle.ep_rules.specs.EntryPoint.Kernel.{scripted}
-use Rattle.ep_rules.specs.EntryPoint.PreProcessing.{prepared}
-use Rattle.ep_rules.specs.EntryPoint.Event.{Start, Pre, Notice, Card, Candidates, Activate, Outcome, Finished, NoCard, Said, Tells, Apdu, End, EndLink, EndBreach}
+use Rattle.ep_rules.specs.EntryPoint.Event.{Start, Pre, Notice, Card, Candidates, Activate, Outcome, Finished, NoCard, Event as EventData, Tells, Apdu, End, EndLink, EndBreach}
 use Rattle.ep_claim.specs.Lanes.Standing.{events_of}
 use Rattle.ep_claim.specs.Lanes.Exchanges.{Lane}
 use Rattle.ep_rules.specs.EntryPoint.Bounds.{apdus}
 use Rattle.ep_claim.specs.Lanes.LaneText.{Job}
 use Rattle.ep_claim.specs.Lanes.Telling.{job_after, IsOverAt}
-use Rattle.scenario.specs.Scene.{Work}
+use Rattle.scenario.specs.Jobs.{job_of}
+use Rattle.scenario.specs.Scenario.{Work}
 
 -- How many transactions ended approved, declined or online, by the rules with another outcome, with a failed link, and without a card; and how many
 -- commands were answered, records were logged, and exchanges were made (this project's own).
@@ -47,7 +45,7 @@ added a b = record {
 }
 
 -- The outcome that an event tells, if it tells one (after EMV Contactless Book B).
-abbrev pub outcome_in : Said → List OutcomeKind
+abbrev pub outcome_in : EventData → List OutcomeKind
 outcome_in (Tells (Start txn_type amount)) = []
 outcome_in (Tells (Pre number one)) = []
 outcome_in (Tells (Notice message)) = []
@@ -61,7 +59,7 @@ outcome_in EndLink = []
 outcome_in EndBreach = []
 
 -- The last outcome among events, if there is one (after EMV Contactless Book B).
-abbrev pub last_outcome : List Said → Option OutcomeKind
+abbrev pub last_outcome : List EventData → Option OutcomeKind
 last_outcome events = last_or None (flat_map outcome_in events)
 
 -- A transaction that ended by the rules, by its last outcome; without one it counts nowhere (this project's own).
@@ -76,7 +74,7 @@ counted_done (Some TryAnother) c = record c { ended = 1 }
 counted_done (Some EndApplication) c = record c { ended = 1 }
 
 -- A transaction with this last outcome, by its last event; one that ended at a breach counts nowhere (this project's own).
-abbrev pub counted_by : Option OutcomeKind → Option Said → Counts → Counts
+abbrev pub counted_by : Option OutcomeKind → Option EventData → Counts → Counts
 counted_by outcome None c = c
 counted_by outcome (Some (Tells what)) c = c
 counted_by outcome (Some (Apdu command response)) c = c
@@ -86,21 +84,14 @@ counted_by outcome (Some EndLink) c = record c { link = 1 }
 counted_by outcome (Some EndBreach) c = c
 
 -- The numbers of one transaction with these events, this log and so many exchanges (this project's own).
-abbrev pub counts_of : List Said → List (ℕ × List ℕ) → ℕ → Counts
+abbrev pub counts_of : List EventData → List (ℕ × List ℕ) → ℕ → Counts
 counts_of events log exchanges =
     counted_by (last_outcome events) (last_or None events)
     (record nothing { apdus = apdus events; executed = length log; exchanges = exchanges })
 
--- A transaction that is about to begin, as what it says and asks, and its field (after EMV Contactless Book B).
-abbrev pub job_of : Config → Work → Job
-job_of settings w = record {
-  talk = transaction scripted w.txn_type w.amount (prepared settings w.txn_type w.amount) w.scripts;
-  field = w.field;
-}
-
 -- The transactions of all lanes, one lane after another (this project's own).
-abbrev pub jobs_in : Config → List (List Work) → List Job
-jobs_in settings lanes = map (job_of settings) (flat_map (λ (ws : List Work). ws) lanes)
+abbrev pub jobs_in_order : Config → List (List Work) → List Job
+jobs_in_order settings lanes = map (job_of settings) (flat_map (λ (ws : List Work). ws) lanes)
 
 -- The numbers of a transaction after these exchanges (this project's own).
 abbrev pub counts_at : Job → Lane → Counts

@@ -1,9 +1,10 @@
 -- A transaction that is counted while it runs (this project's own).
-use Rattle.std.specs.Prelude.{◌≡◌, ℕ, ◌+◌, ◌≤◌, List, length, Option}
+use Rattle.std.specs.Prelude.{◌*◌, ◌≡◌, ℕ, ◌+◌, ◌≤◌, List, length, Option}
 use Rattle.ep_base.specs.declared.outcome.OutcomeKind.{OutcomeKind}
 use Rattle.ep_base.specs.Cards.Field.{Field}
+use Rattle.ep_base.specs.declared.limits.TheConstants.{PAIRS, TYPE_COMBINATIONS}
 use Rattle.ep_rules.specs.EntryPoint.Kernel.{Scripted, scripted}
-use Rattle.ep_rules.specs.EntryPoint.PreProcessing.{Ready, prepared}
+use Rattle.ep_rules.specs.EntryPoint.PreProcessing.{PreparedOne, prepared}
 use Rattle.ep_rules.specs.EntryPoint.Configuration.{Config}
 use Rattle.ep_rules.specs.EntryPoint.Talk.{Talk}
 use Rattle.ep_claim.specs.Lanes.Standing.{Standing, events_of}
@@ -13,7 +14,7 @@ use Rattle.entry_session.specs.Turns.{View, StandsFor, view_of}
 use Rattle.entry_session.specs.declared.holding.Session.{Session}
 use Rattle.kernel_port.specs.Scripts.{scripted_of}
 use Rattle.kernel_port.specs.declared.scripts.Scripts.{Scripts}
-use Rattle.scenario.specs.Scene.{Work}
+use Rattle.scenario.specs.Scenario.{Work}
 use Rattle.load_run.specs.Counts.{Counts, last_outcome}
 
 -- All numbers together (this project's own).
@@ -22,12 +23,12 @@ all_in c = c.approved + c.declined + c.online + c.ended + c.link + c.nocard + c.
 
 -- A transaction whose numbers fit: its kernels send commands, and have at most 4 restarts and 64 commands left; at most 16 Combinations are of its
 -- type; and its log has room for at most 2310 records (this project's profile).
-pub record IsCountable (ones : List Ready) (k : Scripted) (f : Field) : Type 0 where
+pub record IsCountable (ones : List PreparedOne) (k : Scripted) (f : Field) : Type 0 where
   pub sends : ScriptedSends k
   pub restarts : scripted.restarts k ≤ 4
   pub commands : scripted.commands k ≤ 64
-  pub combinations : length ones ≤ 16
-  pub room : f.room ≤ 2310
+  pub combinations : length ones ≤ TYPE_COMBINATIONS
+  pub room : f.room ≤ 5 * (1 + PAIRS) + 65
 
 -- So it is of a transaction that is about to begin (this project's own).
 abbrev pub CanCount : Config → Work → Type 0

@@ -1,11 +1,11 @@
 -- A round after one more answer.
 use Rattle.std.proofs.Common.{◌≡◌, List, [], ◌∷◌, ◌++◌, Option, Some, None, IsSome, sym, ap}
-use Rattle.ep_base.specs.Air.Heard.{Heard, Turn, Goes, Ends, place_of}
-use Rattle.ep_base.specs.Poll.Round.{Stage, Waking, round_hears, goes_on, round_after}
+use Rattle.ep_base.specs.Air.Heard.{Heard, RoundTurn, Goes, Ends, place_of}
+use Rattle.ep_base.specs.Poll.Round.{Stage, Waking, round_hears, round_goes_on, round_after}
 use Rattle.poll_activate.specs.Poll.{turn_in}
 
-pub goes_on-more : (t : Turn Stage) (answers : List Heard) (heard : Heard) (s : Stage)
-    → place_of (goes_on t answers) ≡ Some s → goes_on t (answers ++ heard ∷ []) ≡ round_hears s heard
+pub goes_on-more : (t : RoundTurn Stage) (answers : List Heard) (heard : Heard) (s : Stage)
+    → place_of (round_goes_on t answers) ≡ Some s → round_goes_on t (answers ++ heard ∷ []) ≡ round_hears s heard
 goes_on-more (Goes t) [] heard s e = let same : t ≡ s = cc in ap (λ x. round_hears x heard) same
 goes_on-more (Ends e) [] heard s h = cc
 goes_on-more (Goes t) (x ∷ answers) heard s e = goes_on-more (round_hears t x) answers heard s e

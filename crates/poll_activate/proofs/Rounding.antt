@@ -4,17 +4,18 @@ use Rattle.std.specs.Prelude.{Option, Some, None, Result, Ok, Err}
 use Rattle.ep_base.specs.declared.activation.Ats.{Ats}
 use Rattle.ep_base.specs.declared.activation.AtsFault.{AtsFault}
 use Rattle.ep_base.specs.Cards.Activation.{ats}
-use Rattle.ep_base.specs.Air.Heard.{Ask, Heard, is_silent, RoundEnd, Empty, Collision, Unsupported, Broken, Turn, Goes, Ends, place_of, end_of, Awaited, Says, Fails, awaited, on_answer}
+use Rattle.ep_base.specs.Air.Heard.{Ask, Heard, is_silent, RoundEnd, Empty, Collision, Unsupported, Broken, RoundTurn, Goes, Ends, place_of, end_of, RoundAnswer, Says, Fails, awaited, on_answer}
 use Rattle.ep_base.specs.Cards.TypeA.{AStage, Woken, Level, Select, Complete, a_says, a_wave, after_ats}
 use Rattle.ep_base.specs.Cards.TypeB.{BStage, b_says, b_found}
 use Rattle.ep_base.specs.Poll.Round.{Stage, Waking, Halting, WakingB, InA, InB, round_asks, round_hears, in_a, in_b}
 use Rattle.ep_base.specs.Air.Medium.{MediumSteps, Exchanges}
 use Rattle.ep_base.specs.Poll.Polling.{Plays, PlaysRound}
+use Rattle.ep_base.specs.declared.limits.TheConstants.{ROUND_EXCHANGES}
 use Rattle.poll_activate.specs.Poll.{asked_in, turn_in}
 
 -- How many exchanges a round still has at most, with the one whose frame is sent next.
 abbrev pub left : Stage → ℕ
-left Waking = 11
+left Waking = ROUND_EXCHANGES
 left Halting = 10
 left (WakingB woke) = 9
 left (InA Woken) = 8
@@ -27,11 +28,11 @@ abbrev pub left_at : Option Stage → ℕ
 left_at (Some stage) = left stage
 left_at None = 0
 
-abbrev Fewer : Turn Stage → ℕ → Type 0
+abbrev Fewer : RoundTurn Stage → ℕ → Type 0
 Fewer (Goes stage) n = left stage < n
 Fewer (Ends e) n = Unit {0}
 
-woken : (silent : Bool) → Fewer (Goes (if silent then WakingB false else Halting)) 11
+woken : (silent : Bool) → Fewer (Goes (if silent then WakingB false else Halting)) ROUND_EXCHANGES
 woken true = omega arith
 woken false = omega arith
 
@@ -39,7 +40,7 @@ woken_too : (silent : Bool) → Fewer (if silent then Goes (InA Woken) else Ends
 woken_too true = omega arith
 woken_too false = tt
 
-woken_b : (silent : Bool) (t : Turn BStage) → Fewer (if silent then Ends Empty else in_b t) 9
+woken_b : (silent : Bool) (t : RoundTurn BStage) → Fewer (if silent then Ends Empty else in_b t) 9
 woken_b true t = tt
 woken_b false (Goes s) = omega arith
 woken_b false (Ends e) = tt
@@ -78,7 +79,7 @@ says_a (Level level uid) message = a_level _ level uid message
 says_a (Select level uid part) message = a_sak _ _ (nat_lt level 3) _ _ level _ _ (λ e. grind arith)
 says_a (Complete uid) message = an_ats uid (ats message)
 
-answered_a : (s : AStage) (w : Awaited) → Fewer (in_a (on_answer (a_says s) w)) (left (InA s))
+answered_a : (s : AStage) (w : RoundAnswer) → Fewer (in_a (on_answer (a_says s) w)) (left (InA s))
 answered_a s (Says message) = says_a s message
 answered_a s (Fails e) = tt
 
@@ -86,7 +87,7 @@ says_b : (s : BStage) (well : Bool) (a b : RoundEnd) → Fewer (in_b (if well th
 says_b s true a b = tt
 says_b s false a b = tt
 
-answered_b : (s : BStage) (w : Awaited) → Fewer (in_b (on_answer (b_says s) w)) 1
+answered_b : (s : BStage) (w : RoundAnswer) → Fewer (in_b (on_answer (b_says s) w)) 1
 answered_b s (Says message) = says_b s _ _ _
 answered_b s (Fails e) = tt
 
@@ -108,16 +109,16 @@ some_left (InA (Select level uid part)) = omega arith
 some_left (InA (Complete uid)) = omega arith
 some_left (InB s) = omega arith
 
-pub goes_at : (t : Turn Stage) → None ≡ end_of t → (s : Stage) × (t ≡ Goes s)
+pub goes_at : (t : RoundTurn Stage) → None ≡ end_of t → (s : Stage) × (t ≡ Goes s)
 goes_at (Goes s) e = (s, refl)
 goes_at (Ends x) e = cc
 
-pub ends_at : (t : Turn Stage) (x : RoundEnd) → Some x ≡ end_of t → t ≡ Ends x
+pub ends_at : (t : RoundTurn Stage) (x : RoundEnd) → Some x ≡ end_of t → t ≡ Ends x
 ends_at (Goes s) x e = cc
 ends_at (Ends y) x e = cc
 
 -- A round that is over stays so.
-over_in : {S : Type 0} → (steps : MediumSteps S) (fsdi n : ℕ) (turn : Turn Stage) (s : S) (ending : RoundEnd) → turn ≡ Ends ending → Plays steps fsdi n turn s (Some ending) s
+over_in : {S : Type 0} → (steps : MediumSteps S) (fsdi n : ℕ) (turn : RoundTurn Stage) (s : S) (ending : RoundEnd) → turn ≡ Ends ending → Plays steps fsdi n turn s (Some ending) s
 unfolding Plays
 over_in steps fsdi zero turn s ending e = rw e (refl, refl)
 over_in steps fsdi (suc n) turn s ending e = rw e (refl, refl)
@@ -186,4 +187,4 @@ module _ {S : Type 0} (steps : MediumSteps S) (fsdi : ℕ) (Whole : Option Round
 
 -- A round begins.
 pub begins : {S : Type 0} → (steps : MediumSteps S) (fsdi : ℕ) (s : S) → From steps fsdi (λ ending t. PlaysRound steps fsdi s ending t) (Some Waking) s
-begins steps fsdi s = record { stage = Waking; at = refl; n = 11; enough = omega arith; whole = λ ending t plays. plays }
+begins steps fsdi s = record { stage = Waking; at = refl; n = ROUND_EXCHANGES; enough = omega arith; whole = λ ending t plays. plays }

@@ -3,6 +3,7 @@ use Rattle.std.specs.Prelude.{◌≡◌, true, List, length, map, Option, Some, 
 use Rattle.std.specs.List.{list_all}
 use Rattle.ep_base.specs.Air.Heard as air
 use Rattle.ep_base.specs.Poll.Polling.{Polled, Came, NoCard, Device, card_in}
+use Rattle.ep_base.specs.declared.limits.TheConstants.{ROUNDS}
 use Rattle.rf_frame.specs.Meaning.{round_end_of}
 use Rattle.rf_frame.specs.declared.cards.RoundEnd.{RoundEnd}
 use Rattle.poll_activate.specs.declared.polling.PollEnd.{PollEnd}
@@ -25,4 +26,4 @@ polled_of (Err poll_ends.Device) = Device
 
 -- Sixty-four rounds ended without a card.
 abbrev pub AreAllWithoutCard : List air.RoundEnd → Type 0
-AreAllWithoutCard ends = (length ends ≡ 64) × (list_all (λ e. is_none (card_in e)) ends ≡ true)
+AreAllWithoutCard ends = (length ends ≡ ROUNDS) × (list_all (λ e. is_none (card_in e)) ends ≡ true)

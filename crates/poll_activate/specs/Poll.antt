@@ -1,7 +1,7 @@
 -- A reader in a poll round (this project's own).
 use Rattle.std.specs.Prelude.{◌≡◌, ℕ, List, [], Option, Some, None}
 use Rattle.ep_base.specs.declared.air.Wave.TheVariants.{B}
-use Rattle.ep_base.specs.Air.Heard.{Ask, asks, Heard, Turn, Ends, Broken, place_of}
+use Rattle.ep_base.specs.Air.Heard.{Ask, asks, Heard, RoundTurn, Ends, Broken, place_of}
 use Rattle.ep_base.specs.Poll.Round.{Stage, round_asks, round_hears, round_after}
 
 -- Its FSDI, and what it sent last while the round goes on.
@@ -23,12 +23,12 @@ abbrev pub asked_after : ℕ → List Heard → Ask
 asked_after fsdi answers = asked_in fsdi (place_of (round_after answers))
 
 -- What follows a hearing, where the round goes on.
-abbrev pub turn_in : Option Stage → Heard → Turn Stage
+abbrev pub turn_in : Option Stage → Heard → RoundTurn Stage
 turn_in (Some stage) heard = round_hears stage heard
 turn_in None heard = Ends Broken
 
 -- What follows a hearing in a poll (this project's own).
-abbrev pub turn : PollState → Heard → Turn Stage
+abbrev pub turn : PollState → Heard → RoundTurn Stage
 turn p heard = turn_in p.stage heard
 
 -- The round stands where these answers lead.

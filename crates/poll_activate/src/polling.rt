@@ -9,10 +9,11 @@ ghost use Rattle.poll_activate.specs.Meaning.{ended, ends_of, polled_of, AreAllW
 
 use crate::reader::Poll;
 use arrayvec::ArrayVec;
+use ep_base::ROUNDS;
 use rf_frame::{Activated, Medium, RfFailed, RoundEnd, exchange};
 
 /// The ends of at most 64 rounds.
-pub type Rounds = ArrayVec<RoundEnd, 64>;
+pub type Rounds = ArrayVec<RoundEnd, ROUNDS>;
 
 /// Why polling found no card.
 #[derive(Clone, Copy, Debug, PartialEq, Eq)]
@@ -59,12 +60,12 @@ fn card_of(end: &RoundEnd) -> Option<Activated>
 pub fn poll<M: Medium>(medium: &mut M, fsdi: u8, rounds: &mut Rounds) -> Result<Activated, PollEnd>
     requires fsdi { fsdi < 16 }
     requires empty { array_vec_len rounds.old ≡ 0 }
-    ensures plays { PlaysRounds M.steps fsdi 64 (M.state medium.old) (ends_of rounds.new.items) (polled_of result) (M.state medium.new) }
+    ensures plays { PlaysRounds M.steps fsdi ROUNDS (M.state medium.old) (ends_of rounds.new.items) (polled_of result) (M.state medium.new) }
     ensures none { IsErrOf result PollEnd.NoCard ↔ AreAllWithoutCard (ends_of rounds.new.items) }
     ensures cause { HasCause (M.faults medium.old) (M.faults medium.new) (IsErrOf result PollEnd.Device) }
     ensures limits { IfOk result (λ card. AreLimits card.fsc card.fwi) }
 {
-    'each: while rounds.len() < 64 {
+    'each: while rounds.len() < ROUNDS {
         let end = match round(medium, fsdi) {
             Ok(end) => end,
             Err(_) => return Err(PollEnd::Device),

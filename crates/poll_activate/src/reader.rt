@@ -2,7 +2,7 @@
 ghost use Rattle.std.specs.Prelude.{◌≡◌, ◌<◌, IsSome, IfSome, List, [], ◌∷◌, ◌++◌};
 ghost use Rattle.ep_base.specs.Cards.CardLimits.{EndsInLimits};
 ghost use Rattle.std.specs.Option.{IsNone};
-ghost use Rattle.ep_base.specs.Air.Heard.{place_of, end_of, Heard as Hearing};
+ghost use Rattle.ep_base.specs.Air.Heard.{place_of, end_of, Heard as HeardData};
 ghost use Rattle.ep_base.specs.Poll.Round.{Waking as AtWaking, WakingB as AtWakingB, round_hears, round_after};
 ghost use Rattle.rf_frame.specs.Meaning.{heard_of, maybe_end, round_end_of};
 ghost use Rattle.poll_activate.specs.Poll.{asked, asked_after, turn, StandsFor};
@@ -62,7 +62,7 @@ impl Poll {
     pub fn ask(&self) -> Ask
         requires { IsSome self.now.stage }
         ensures asked { result ≡ asked self.now }
-        ensures listed { (answers : List Hearing) → StandsFor self.now answers → result ≡ asked_after self.now.fsdi answers }
+        ensures listed { (answers : List HeardData) → StandsFor self.now answers → result ≡ asked_after self.now.fsdi answers }
     {
         let mut ask = Ask::blank();
         self.ask_into(&mut ask);
@@ -73,7 +73,7 @@ impl Poll {
     pub fn ask_into(&self, ask: &mut Ask)
         requires { IsSome self.now.stage }
         ensures asked { ask.new ≡ asked self.now }
-        ensures listed { (answers : List Hearing) → StandsFor self.now answers → ask.new ≡ asked_after self.now.fsdi answers }
+        ensures listed { (answers : List HeardData) → StandsFor self.now answers → ask.new ≡ asked_after self.now.fsdi answers }
     {
         match &self.step {
             Step::Waking => {
@@ -155,9 +155,9 @@ impl Poll {
         ensures end { maybe_end result ≡ end_of (turn self.old (heard_of heard.now)) }
         ensures limits { IfSome result (λ e. EndsInLimits (round_end_of e)) }
         ensures going { IsNone result → IsSome self.new.stage }
-        ensures stands { (answers : List Hearing) → StandsFor self.old answers →
+        ensures stands { (answers : List HeardData) → StandsFor self.old answers →
             StandsFor self.new (answers ++ heard_of heard.now ∷ []) }
-        ensures listed { (answers : List Hearing) → StandsFor self.old answers →
+        ensures listed { (answers : List HeardData) → StandsFor self.old answers →
             maybe_end result ≡ end_of (round_after (answers ++ heard_of heard.now ∷ [])) }
     {
         self.takes(heard)

@@ -2,6 +2,7 @@
 ghost use Rattle.std.specs.Prelude.{IsSome, IsOk};
 
 use super::*;
+use ep_base::ROUNDS;
 use rf_frame::{Buf, CardHear, CardKind, FrameBuf, Sent};
 use std::test::Fail;
 use type_a::{ACard, APlan};
@@ -144,7 +145,7 @@ fn polls_nobody(rt: HostRuntime) -> Result<(), Fail> {
     let mut rounds = Rounds::new();
     assert_eq!(rt; poll(&mut medium, 8, &mut rounds), Err(PollEnd::NoCard));
     assert_eq!(rt; medium.exchanges, 128);
-    assert_eq!(rt; rounds.len(), 64);
+    assert_eq!(rt; rounds.len(), ROUNDS);
     for end in rounds.as_slice() {
         assert_eq!(rt; *end, RoundEnd::Empty);
     }
@@ -158,7 +159,7 @@ fn polls_cards_of_both_types(rt: HostRuntime) -> Result<(), Fail> {
     let mut rounds = Rounds::new();
     assert_eq!(rt; poll(&mut medium, 8, &mut rounds), Err(PollEnd::NoCard));
     assert_eq!(rt; medium.exchanges, 192);
-    assert_eq!(rt; rounds.len(), 64);
+    assert_eq!(rt; rounds.len(), ROUNDS);
     for end in rounds.as_slice() {
         assert_eq!(rt; *end, RoundEnd::Collision);
     }

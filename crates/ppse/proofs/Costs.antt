@@ -1,12 +1,10 @@
 -- Entries take no more room than they are spelled in.
-use Rattle.std.proofs.Common.{◌≡◌, ◌≢◌, ℕ, suc, ◌+◌, ◌*◌, ◌≤◌, Bool, true, false, cond, inl, inr, List, [], ◌∷◌, ◌++◌, length, Option, Some, None, refl, arith, eqb}
+use Rattle.std.proofs.Common.{◌≡◌, ◌≢◌, ℕ, suc, ◌+◌, ◌*◌, ◌≤◌, inl, inr, List, [], ◌∷◌, ◌++◌, length, refl, arith, eqb}
 use Rattle.std.specs.Prelude.{if◌then◌else◌, ◌==◌}
-use Rattle.std.specs.List.{count_by}
-use Rattle.std.proofs.lemmas.Bool.{eq-eqb, ne_eqb, cases_eq, cases_lt, lt-leb, cases_Bool}
+use Rattle.std.proofs.lemmas.Bool.{eq-eqb, ne_eqb, cases_eq, cases_Bool}
 use Rattle.std.proofs.lemmas.List.{length-append}
-use Rattle.std.proofs.lemmas.List.Sums.{sum_by-cons}
 use Rattle.ep_base.specs.Objects.Forest.{Forest, nothing, padding, primitive, constructed, spelling, IsForest, IsTag, IsLength, tag_number}
-use Rattle.ep_base.specs.Objects.Directory.{Entry, first_value, entry_of, entries_in, is_name, is_named}
+use Rattle.ep_base.specs.Objects.Directory.{Entry, first_value, entry_of, entries_in}
 use Rattle.ppse.specs.Room.{value_cost, entry_cost, entries_cost}
 
 tag_long : (t : List ℕ) → IsTag t → 1 ≤ length t
@@ -88,28 +86,6 @@ entries_within (constructed t len inner rest) d is =
       | inl e ↦ rw e (omega (arith, all, rest_is, inner_is, t_long, l_long))
       | inr e ↦ rw e (omega (arith, all, rest_is))
     ]
-
--- NAMES
-
-one_at_most : (b : Bool) → cond b 1 0 ≤ 1
-one_at_most true = omega arith
-one_at_most false = omega arith
-
-name_cost : (o : Option (List ℕ)) → 9 * cond (is_name o) 1 0 ≤ value_cost o + 2
-name_cost None = omega arith
-name_cost (Some v) =
-    elim (cases_lt (length v) 5) [
-      | inl short ↦ rw (lt-leb 5 (length v) short) (omega arith)
-      | inr long ↦ omega (arith, one_at_most (is_name (Some v)))
-    ]
-
-pub named_within : (es : List Entry) → 9 * count_by is_named es ≤ entries_cost es
-named_within [] = omega arith
-named_within (e ∷ es) =
-    let first : 9 * cond (is_name e.name) 1 0 ≤ value_cost e.name + 2 = name_cost e.name in
-    let others : 9 * count_by is_named es ≤ entries_cost es = named_within es in
-    let split : count_by is_named (e ∷ es) ≡ cond (is_name e.name) 1 0 + count_by is_named es = sum_by-cons (λ (x : Entry). cond (is_named x) 1 0) e es in
-    omega (arith, first, others, split)
 
 pub count_within : (es : List Entry) → 2 * length es ≤ entries_cost es
 count_within [] = omega arith

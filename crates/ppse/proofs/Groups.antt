@@ -1,7 +1,7 @@
 -- What the groups of an arena hold after entries are put.
 use Rattle.std.proofs.Common.{◌≡◌, ◌≢◌, ℕ, zero, suc, ◌+◌, ◌<◌, ◌≤◌, ◌⊎◌, inl, inr, Bool, true, false, cond, ◌&&◌, List, [], ◌∷◌, ◌++◌, length, Option, Some, None, refl, sym, ap, ◌∙◌, arith, eqb}
 use Rattle.std.proofs.lemmas.Bool.{eq-eqb, ne_eqb, cases_eq, cases_Bool}
-use Rattle.ep_base.specs.Objects.Arena.{Object, Contents, value_in, without_group, has_room, added, after}
+use Rattle.ep_base.specs.Objects.Arena.{Object, Contents, value_in, without_group, has_room, with_object, after}
 use Rattle.ep_base.specs.Objects.Arena as kept
 use Rattle.ep_base.specs.Objects.Directory.{Entry, with_value, with_entry, with_entries, entry_held, held_from}
 
@@ -116,7 +116,7 @@ outside : (count group g : ℕ) → (group ≡ 0) ⊎ (count < group) → 1 ≤ 
 outside count group g (inl e) le lt = λ q. omega arith
 outside count group g (inr above) le lt = λ q. omega arith
 
-added_or_not : (g t group tag : ℕ) (value : List ℕ) (c : Contents) (b : Bool) → group ≢ g → value_in g t (cond b (added group tag value c) c).objects ≡ value_in g t c.objects
+added_or_not : (g t group tag : ℕ) (value : List ℕ) (c : Contents) (b : Bool) → group ≢ g → value_in g t (cond b (with_object group tag value c) c).objects ≡ value_in g t c.objects
 added_or_not g t group tag value c true ne = value_in-push-other g t c.objects (record { serial = c.next; group = group; tag = tag; value = value }) (λ q _. ne q)
 added_or_not g t group tag value c false ne = refl
 

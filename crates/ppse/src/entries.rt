@@ -10,6 +10,7 @@ use crate::tags::{
     ADF_NAME, APPLICATION_LABEL, APPLICATION_PRIORITY, DIRECTORY_ENTRY, EXTENDED_SELECTION,
     KERNEL_IDENTIFIER,
 };
+use ep_base::DATA;
 use tlv_arena::Arena;
 use tlv_core::{one_reading, read};
 
@@ -40,11 +41,11 @@ fn put_entry(arena: &mut Arena, entry: u16, objects: &[u8])
 
 /// Puts the values of all entries among these objects, entry n in group n, and says how many entries there are.
 pub(crate) fn put_entries(arena: &mut Arena, objects: &[u8]) -> u16
-    requires length { length objects.now ≤ 256 }
-    requires spare { HasSpare 256 arena.old.contents }
+    requires length { length objects.now ≤ DATA }
+    requires spare { HasSpare DATA arena.old.contents }
     ensures count { result ≡ length (entries_of (forest_of objects.now)) }
     ensures contents { arena.new.contents ≡ with_entries 1 (entries_of (forest_of objects.now)) arena.old.contents }
-    ensures cost { entries_cost (entries_of (forest_of objects.now)) ≤ 256 }
+    ensures cost { entries_cost (entries_of (forest_of objects.now)) ≤ DATA }
 {
     one_reading();
     let Ok(mut walk) = read(objects) else {

@@ -3,9 +3,8 @@
 
 ghost use Rattle.std.specs.Prelude.{◌≡◌, ◌+◌, ◌*◌, ◌^◌, ◌<◌, ◌≤◌, [], length, IfSome};
 ghost use Rattle.std.specs.Option.{option_map};
-ghost use Rattle.std.specs.List.{count_by};
 ghost use Rattle.ep_base.specs.Objects.Arena.{live_bytes, value_in};
-ghost use Rattle.ep_base.specs.Objects.Directory.{directory, is_named, with_entries, entries_held};
+ghost use Rattle.ep_base.specs.Objects.Directory.{directory, with_entries, entries_held};
 ghost use Rattle.ppse.specs.Listing.{listed};
 
 mod entries;
@@ -13,8 +12,9 @@ mod find;
 mod laws;
 mod tags;
 
-use apdu::Response;
+use apdu::{Response, SUCCESS};
 use entries::put_entries;
+use ep_base::{ARENA_BYTES, ARENA_SLOTS, DATA};
 use find::first;
 pub use laws::other_groups;
 pub use tags::{
@@ -23,9 +23,6 @@ pub use tags::{
 };
 use tlv_arena::Arena;
 use tlv_core::one_reading;
-
-/// The status word of a response that gives what was asked (ISO/IEC 7816-4).
-const SUCCESS: u16 = 0x9000;
 
 /// A directory whose entries lie in an arena: the values of entry n, from 1, are the objects of group n.
 #[derive(Clone, Copy, Debug, PartialEq, Eq)]
@@ -37,7 +34,7 @@ pub struct Directory {
 /// The objects among which the entries are, where there are such.
 fn listing(answer: &Response) -> Option<&[u8]>
     ensures entries { directory answer.now ≡ listed (option_map (λ v. v.now) result) }
-    ensures most { IfSome result (λ v. length v.now ≤ 256) }
+    ensures most { IfSome result (λ v. length v.now ≤ DATA) }
 {
     one_reading();
     if answer.sw() != SUCCESS {
@@ -54,18 +51,16 @@ fn listing(answer: &Response) -> Option<&[u8]>
 /// the status word isn't 9000, the data isn't a list of objects, or a template is missing. There is always room.
 pub fn read_directory(arena: &mut Arena, answer: &Response) -> Directory
     requires empty { arena.old.objects ≡ [] }
-    requires bytes { 1024 ≤ arena.old.bytes }
-    requires slots { 192 ≤ arena.old.slots }
+    requires bytes { ARENA_BYTES ≤ arena.old.bytes }
+    requires slots { ARENA_SLOTS ≤ arena.old.slots }
     // As many puts may still come.
-    requires serials { arena.old.next + 192 < 2 ^ 64 }
+    requires serials { arena.old.next + ARENA_SLOTS < 2 ^ 64 }
     ensures entries { result.entries ≡ length (directory answer.now) }
     ensures contents { arena.new.contents ≡ with_entries 1 (directory answer.now) arena.old.contents }
     // What the groups hold says the entries.
     ensures held { entries_held result.entries arena.new.objects ≡ directory answer.now }
-    // Entries that can be candidates.
-    ensures named { count_by is_named (directory answer.now) ≤ 28 }
     // How much of the arena is taken.
-    ensures room { live_bytes arena.new.objects + 2 * length arena.new.objects ≤ 256 }
+    ensures room { live_bytes arena.new.objects + 2 * length arena.new.objects ≤ DATA }
     ensures next { arena.new.next ≡ arena.old.next + length arena.new.objects }
     ensures capacities { (arena.new.bytes ≡ arena.old.bytes) × (arena.new.slots ≡ arena.old.slots) }
 {

@@ -3,6 +3,7 @@ use crate::{
     entry_value, read_directory,
 };
 use apdu::Response;
+use ep_base::{ARENA_BYTES, ARENA_SLOTS};
 use std::alloc::Global;
 use tlv_arena::Arena;
 
@@ -16,7 +17,7 @@ fn holds(arena: &Arena, entry: u16, tag: u32, value: &[u8]) -> bool {
 /// Two entries: a name of seven bytes, and one of nine with a second name, a priority of 2, a kernel and a selection.
 #[test]
 fn two_entries(rt: HostRuntime) {
-    let mut arena = Arena::open(rt.alloc(), 1024, 192)
+    let mut arena = Arena::open(rt.alloc(), ARENA_BYTES, ARENA_SLOTS)
         .ok()
         .expect(&rt, "it opens");
     let answer = Response::of(&[
@@ -41,7 +42,7 @@ fn two_entries(rt: HostRuntime) {
 }
 
 fn entries_of(alloc: Global, bytes: &[u8]) -> Option<u16> {
-    let mut arena = Arena::open(alloc, 1024, 192).ok()?;
+    let mut arena = Arena::open(alloc, ARENA_BYTES, ARENA_SLOTS).ok()?;
     let answer = Response::of(bytes).ok()?;
     Some(read_directory(&mut arena, &answer).entries)
 }

@@ -18,9 +18,9 @@ pub struct Indicators {
 }
 
 impl Model for Indicators {
-    ghost use Rattle.ep_rules.specs.EntryPoint.PreProcessing.{Indicators as Truths};
+    ghost use Rattle.ep_rules.specs.EntryPoint.PreProcessing.{Indicators as IndicatorsData};
 
-    ghost Value = { Truths };
+    ghost Value = { IndicatorsData };
 
     ghost view = { λ i. record { not_allowed = i.not_allowed; status = i.status; zero = i.zero; floor = i.floor; cvm = i.cvm } };
 

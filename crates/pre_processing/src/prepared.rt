@@ -22,9 +22,9 @@ pub struct PreparedOne {
 }
 
 impl Model for PreparedOne {
-    ghost use Rattle.ep_rules.specs.EntryPoint.PreProcessing.{Ready};
+    ghost use Rattle.ep_rules.specs.EntryPoint.PreProcessing.{PreparedOne as PreparedOneData};
 
-    ghost Value = { Ready };
+    ghost Value = { PreparedOneData };
 
     ghost view = { λ p. record { combination = p.combination; indicators = p.indicators; ttq = p.ttq } };
 }

@@ -2,7 +2,7 @@
 #![tactic(auto)]
 
 #[cfg(test)]
-mod cards;
+mod purchase;
 #[cfg(test)]
 mod tests;
 #[cfg(test)]

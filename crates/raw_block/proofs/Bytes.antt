@@ -5,7 +5,7 @@ use Rattle.std.proofs.Math.Seq.{take-set-lt}
 use Rattle.std.proofs.lemmas.List.{map-append, map-set, take-take, take-map, take_more, take_more_set, drop-take, length-take, length-drop, length-append, length-map, get_or-drop, append_assoc, take-append-drop, drop-map}
 use Rattle.std.proofs.lemmas.Option.{get_or_from_slice_get}
 use Rattle.raw_block.specs.Filling.{filled}
-use Rattle.ep_base.specs.Objects.RawBytes.{run, slid}
+use Rattle.ep_base.specs.Objects.RawBytes.{bytes_at, slid}
 
 filled-map : (xs : List ℕ) → filled (map Some xs) ≡ xs
 filled-map [] = refl
@@ -25,18 +25,18 @@ module _ (cs : List (Option ℕ)) (n : ℕ) (xs : List ℕ) (e : take n cs ≡ m
   pub shortened : (top : ℕ) → top ≤ n → take top cs ≡ map Some (take top xs)
   shortened top le = sym (take-take top n cs le) ∙ ap (take top) e ∙ take-map Some top xs
 
-  seen : (at len : ℕ) → at + len ≤ n → take len (drop at cs) ≡ map Some (run at len xs)
+  seen : (at len : ℕ) → at + len ≤ n → take len (drop at cs) ≡ map Some (bytes_at at len xs)
   seen at len le = sym (drop-take at len cs) ∙ ap (drop at) (sym (take-take (at + len) n cs le)) ∙ drop-take at len (take n cs)
       ∙ ap (λ l. take len (drop at l)) e ∙ ap (take len) (drop-map Some at xs) ∙ take-map Some len (drop at xs)
 
-  pub viewed : (at len : ℕ) → at + len ≤ n → (take len (drop at cs) ≡ map Some (filled (take len (drop at cs)))) × (filled (take len (drop at cs)) ≡ run at len xs)
-  viewed at len le = of_run (take len (drop at cs)) (run at len xs) (seen at len le)
+  pub viewed : (at len : ℕ) → at + len ≤ n → (take len (drop at cs) ≡ map Some (filled (take len (drop at cs)))) × (filled (take len (drop at cs)) ≡ bytes_at at len xs)
+  viewed at len le = of_run (take len (drop at cs)) (bytes_at at len xs) (seen at len le)
 
   pub count : n ≤ length cs → length xs ≡ n
   count le = omega (arith, ap length e, length-map xs Some, length-take n cs)
 
 -- the byte of a piece of one
-pub lone_byte : (xs : List ℕ) (i : ℕ) → i < length xs → slice_get xs i ≡ Some (get_or (run i 1 xs) 0 0)
+pub lone_byte : (xs : List ℕ) (i : ℕ) → i < length xs → slice_get xs i ≡ Some (get_or (bytes_at i 1 xs) 0 0)
 lone_byte [] i lt = absurd (omega arith)
 lone_byte (x ∷ xs) zero lt = refl
 lone_byte (x ∷ xs) (suc i) lt = lone_byte xs i (omega arith)
@@ -58,7 +58,7 @@ set-first (x ∷ xs) (suc m) b lt = let on : suc m + 1 ≡ suc (m + 1) = omega a
 
 module _ (from to : ℕ) (xs : List ℕ) (down : to ≤ from) where
   pub length-slid : (i : ℕ) → from + i ≤ length xs → length (slid from to i xs) ≡ length xs
-  length-slid i le = omega (arith, length-append (take to xs) (run from i xs ++ drop (to + i) xs), length-append (run from i xs) (drop (to + i) xs), length-take to xs, length-take i (drop from xs), length-drop from xs, length-drop (to + i) xs)
+  length-slid i le = omega (arith, length-append (take to xs) (bytes_at from i xs ++ drop (to + i) xs), length-append (bytes_at from i xs) (drop (to + i) xs), length-take to xs, length-take i (drop from xs), length-drop from xs, length-drop (to + i) xs)
 
   pub slid-none : slid from to 0 xs ≡ xs
   slid-none = let same : to + 0 ≡ to = omega arith in ap (λ k. take to xs ++ drop k xs) same ∙ take-append-drop to xs
@@ -66,15 +66,15 @@ module _ (from to : ℕ) (xs : List ℕ) (down : to ≤ from) where
   -- the next byte is copied
   pub slid-more : (i b : ℕ) → from + i < length xs → slice_get (slid from to i xs) (from + i) ≡ Some b → set (slid from to i xs) (to + i) b ≡ slid from to (i + 1) xs
   slid-more i b lt got =
-      let front = take to xs in let piece = run from i xs in let rest = drop (to + i) xs in
+      let front = take to xs in let piece = bytes_at from i xs in let rest = drop (to + i) xs in
       let fronts : length front ≡ to = omega (arith, length-take to xs) in
       let pieces : length piece ≡ i = omega (arith, length-take i (drop from xs), length-drop from xs) in
       let there : get_or (slid from to i xs) (from + i) 0 ≡ get_or xs (from + i) 0 =
       get-past front (piece ++ rest) (from + i) (i + (from - to)) (omega arith) ∙ get-past piece rest (i + (from - to)) (from - to) (omega arith) ∙ get_or-drop (to + i) xs (from - to) 0
       ∙ (let same : to + i + (from - to) ≡ from + i = omega arith in ap (λ k. get_or xs k 0) same) in
       let byte : get_or (drop from xs) i 0 ≡ b = get_or-drop from xs i 0 ∙ sym there ∙ get_or_from_slice_get (slid from to i xs) (from + i) b 0 got in
-      let more : run from (i + 1) xs ≡ piece ++ b ∷ [] = take_more (drop from xs) i 0 (omega (arith, length-drop from xs)) ∙ ap (λ x. piece ++ x ∷ []) byte in
+      let more : bytes_at from (i + 1) xs ≡ piece ++ b ∷ [] = take_more (drop from xs) i 0 (omega (arith, length-drop from xs)) ∙ ap (λ x. piece ++ x ∷ []) byte in
       let on : to + i + 1 ≡ to + (i + 1) = omega arith in
-      let after : piece ++ b ∷ drop (to + i + 1) xs ≡ run from (i + 1) xs ++ drop (to + (i + 1)) xs =
+      let after : piece ++ b ∷ drop (to + i + 1) xs ≡ bytes_at from (i + 1) xs ++ drop (to + (i + 1)) xs =
       ap (λ k. piece ++ b ∷ drop k xs) on ∙ sym (ap (λ l. l ++ drop (to + (i + 1)) xs) more ∙ append_assoc piece (b ∷ []) (drop (to + (i + 1)) xs)) in
       set-past front (piece ++ rest) (to + i) i b (omega arith) ∙ ap (λ l. front ++ l) (set-past piece rest i 0 b (omega arith) ∙ ap (λ l. piece ++ l) (set-first xs (to + i) b (omega arith)) ∙ after)

@@ -1,11 +1,11 @@
 -- What a block's fields hold (this project's own).
 use Rattle.std.specs.Prelude.{◌≡◌, ◌≤◌, length, take}
-use Rattle.ep_base.specs.Objects.RawBytes.{Block, block}
+use Rattle.ep_base.specs.Objects.RawBytes.{RawBytes as RawBytesData, block}
 use Rattle.raw_block.specs.Filling.{filled, IsFilledTo}
 use Rattle.raw_block.specs.declared.RawBlock.TheInside.{Inside}
 
 -- the bytes of the filled places, and the room
-abbrev pub bytes_of : Inside → Block
+abbrev pub bytes_of : Inside → RawBytesData
 bytes_of b = block (filled (take b.len b.cells.slots)) b.cap
 
 -- the places and the right to free them are those that the pointer points to, and the first len of them hold bytes

@@ -5,7 +5,7 @@
 #![tactic(auto)]
 
 ghost use Rattle.std.specs.Prelude.{◌≡◌, ℕ, ◌+◌, ◌≤◌, ◌<◌, [], ◌∷◌, ◌++◌, length, take, slice_set, slice_get, Some, IfOk};
-ghost use Rattle.ep_base.specs.Objects.RawBytes.{block, run, slid};
+ghost use Rattle.ep_base.specs.Objects.RawBytes.{block, bytes_at, slid};
 
 mod cells;
 
@@ -28,10 +28,10 @@ pub struct RawBlock {
 }
 
 impl Model for RawBlock {
-    ghost use Rattle.ep_base.specs.Objects.RawBytes.{Block, block_code};
+    ghost use Rattle.ep_base.specs.Objects.RawBytes.{RawBytes as RawBytesData, block_code};
     ghost use Rattle.raw_block.specs.BlockState.{bytes_of, IsBlock};
 
-    ghost Value = { Block };
+    ghost Value = { RawBytesData };
 
     ghost coded = { block_code };
 
@@ -139,7 +139,7 @@ impl RawBlock {
     /// The `len` bytes from place `at` on.
     pub fn view(&self, at: usize, len: usize) -> &[u8]
         requires within { at + len ≤ length self.now.bytes }
-        ensures { result.now ≡ run at len self.now.bytes }
+        ensures { result.now ≡ bytes_at at len self.now.bytes }
     {
         self.cells.slice(self.pointer, at, len)
     }

@@ -5,7 +5,7 @@ use Rattle.ep_base.specs.declared.outcome.OutcomeKind.TheVariants as outcomes
 use Rattle.ep_base.specs.declared.outcome.Message.TheVariants as messages
 use Rattle.ep_rules.specs.EntryPoint.Configuration.{Combination}
 use Rattle.ep_rules.specs.EntryPoint.PreProcessing.{Indicators}
-use Rattle.ep_rules.specs.EntryPoint.Event.{Start, Pre, Notice, Card, Candidates, Activate, Outcome, Finished, Said, Tells, Apdu, End}
+use Rattle.ep_rules.specs.EntryPoint.Event.{Start, Pre, Notice, Card, Candidates, Activate, Outcome, Finished, Event as EventData, Tells, Apdu, End}
 
 abbrev aid : List ℕ
 aid = 0xa0 ∷ 0x00 ∷ 0x00 ∷ 0x00 ∷ 0x03 ∷ 0x10 ∷ 0x10 ∷ []
@@ -34,7 +34,7 @@ clear = record { not_allowed = false; status = false; zero = false; floor = fals
 abbrev combination : Combination
 combination = record { txn_type = 0; aid = aid; kernel = 3; status_check = false; zero_allowed = None; limit = None; floor = None; terminal_floor = None; cvm = None; extended = false; ttq = None }
 
-abbrev purchase_events : List Said
+abbrev purchase_events : List EventData
 purchase_events =
     Tells (Start 0 1000)
     ∷ Tells (Pre 1 (record { combination = combination; indicators = clear; ttq = None }))
@@ -53,5 +53,5 @@ purchase_events =
 abbrev purchase_log : List (ℕ × List ℕ)
 purchase_log = (1, select_ppse) ∷ (1, select_name) ∷ (1, get_options) ∷ []
 
-abbrev pub purchase : List Said × List (ℕ × List ℕ)
+abbrev pub purchase : List EventData × List (ℕ × List ℕ)
 purchase = (purchase_events, purchase_log)

@@ -1,16 +1,16 @@
 //! What a kernel is given.
-ghost use Rattle.std.specs.Prelude.{◌≡◌, ◌≤◌, ◌+◌, ◌++◌, length, codes, decimal};
+ghost use Rattle.std.specs.Prelude.{◌≡◌, ◌≤◌, ◌<◌, ◌+◌, ◌++◌, length, codes, decimal};
 ghost use Rattle.ep_claim.specs.Text.ReportLine.{activate_text, hex, ttq_text};
 
 use crate::pieces::{push_hex, push_number, push_ttq};
-use ep_base::Line;
+use ep_base::{LINE_BYTES, Line};
 use kernel_port::Activation;
 
 /// A kernel is activated.
 pub(crate) fn push_activation(activation: &Activation, out: &mut Line)
     requires { length out.old.bytes ≤ 50 }
     ensures text { out.new.bytes ≡ out.old.bytes ++ activate_text activation.now }
-    ensures most { length out.new.bytes ≤ 1199 }
+    ensures most { length out.new.bytes < LINE_BYTES }
 {
     push_kernel(activation.kernel, activation.combination, out);
     push_selected(activation.name.as_slice(), &activation.ttq, out);

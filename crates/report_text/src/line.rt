@@ -1,7 +1,7 @@
 //! The lines.
-ghost use Rattle.std.specs.Prelude.{◌≡◌, ◌≤◌, ◌++◌, [], length};
+ghost use Rattle.std.specs.Prelude.{◌≡◌, ◌≤◌, ◌<◌, ◌++◌, [], length};
 ghost use Rattle.ep_claim.specs.Text.ReportLine.{line_of, said_text};
-ghost use Rattle.session_event.specs.Event.{said_of, said_of_end};
+ghost use Rattle.kernel_port.specs.Event.{said_of, said_of_end};
 
 use crate::activated::push_activation;
 use crate::events::{
@@ -9,8 +9,8 @@ use crate::events::{
 };
 use crate::pieces::push_prefix;
 use crate::prepared::push_prepared;
-use ep_base::Line;
-use session_event::{End, Event};
+use ep_base::{LINE_BYTES, Line};
+use kernel_port::{End, Event};
 
 /// Writes the line of an event of a lane's transaction, with its newline. Lanes are numbered from 1, and so are the
 /// transactions of a lane. `out` is empty, and every line fits.
@@ -28,7 +28,7 @@ pub fn line_of(lane: u8, txn: u8, event: &Event, out: &mut Line)
 fn push_event(event: &Event, out: &mut Line)
     requires { length out.old.bytes ≤ 50 }
     ensures text { out.new.bytes ≡ out.old.bytes ++ said_text (said_of event.now) }
-    ensures most { length out.new.bytes ≤ 1199 }
+    ensures most { length out.new.bytes < LINE_BYTES }
 {
     match event {
         Event::Start { txn_type, amount } => push_start(*txn_type, *amount, out),
@@ -47,7 +47,7 @@ fn push_event(event: &Event, out: &mut Line)
 fn push_end(end: End, out: &mut Line)
     requires { length out.old.bytes ≤ 50 }
     ensures text { out.new.bytes ≡ out.old.bytes ++ said_text (said_of_end end) }
-    ensures most { length out.new.bytes ≤ 1199 }
+    ensures most { length out.new.bytes < LINE_BYTES }
 {
     out.push_str(match end {
         End::Done => "end done",

@@ -2,12 +2,12 @@
 ghost use Rattle.std.specs.Prelude.{◌≡◌, ◌≤◌, ◌+◌, ◌*◌, ◌++◌, length, codes, decimal};
 ghost use Rattle.ep_claim.specs.Text.ReportLine.{hex, prefix, truth, ttq_text};
 
-use ep_base::Line;
+use ep_base::{COMMAND, LINE_BYTES, Line};
 use itoa::Buffer;
 
 /// A number in decimal digits.
 pub(crate) fn push_number(number: u64, out: &mut Line)
-    requires { length out.old.bytes + 20 ≤ 1200 }
+    requires { length out.old.bytes + 20 ≤ LINE_BYTES }
     ensures text { out.new.bytes ≡ out.old.bytes ++ decimal number }
     ensures most { length out.new.bytes ≤ length out.old.bytes + 20 }
 {
@@ -18,12 +18,12 @@ pub(crate) fn push_number(number: u64, out: &mut Line)
 /// Bytes as hexadecimal digits.
 #[tactic(auto, using(crate::proofs::HexText::hex_is_text))]
 pub(crate) fn push_hex(bytes: &[u8], out: &mut Line)
-    requires few { length bytes.now ≤ 261 }
-    requires room { length out.old.bytes + 2 * length bytes.now ≤ 1200 }
+    requires few { length bytes.now ≤ COMMAND }
+    requires room { length out.old.bytes + 2 * length bytes.now ≤ LINE_BYTES }
     ensures text { out.new.bytes ≡ out.old.bytes ++ hex bytes.now }
     ensures most { length out.new.bytes ≤ length out.old.bytes + 2 * length bytes.now }
 {
-    let mut digits = [0; 522];
+    let mut digits = [0; 2 * COMMAND];
     let room = &mut digits[..2 * bytes.len()];
     hex::encode_to_slice(bytes, room).unwrap();
     out.push_str(str::from_utf8(room).unwrap());
@@ -31,7 +31,7 @@ pub(crate) fn push_hex(bytes: &[u8], out: &mut Line)
 
 /// A truth as 0 or 1.
 pub(crate) fn push_truth(value: bool, out: &mut Line)
-    requires { length out.old.bytes + 1 ≤ 1200 }
+    requires { length out.old.bytes + 1 ≤ LINE_BYTES }
     ensures text { out.new.bytes ≡ out.old.bytes ++ truth value }
     ensures most { length out.new.bytes ≤ length out.old.bytes + 1 }
 {
@@ -40,7 +40,7 @@ pub(crate) fn push_truth(value: bool, out: &mut Line)
 
 /// A TTQ, where there is one.
 pub(crate) fn push_ttq(ttq: &Option<[u8; 4]>, out: &mut Line)
-    requires { length out.old.bytes + 8 ≤ 1200 }
+    requires { length out.old.bytes + 8 ≤ LINE_BYTES }
     ensures text { out.new.bytes ≡ out.old.bytes ++ ttq_text ttq.now }
     ensures most { length out.new.bytes ≤ length out.old.bytes + 8 }
 {
@@ -52,7 +52,7 @@ pub(crate) fn push_ttq(ttq: &Option<[u8; 4]>, out: &mut Line)
 
 /// The numbers of lane and transaction.
 pub(crate) fn push_prefix(lane: u8, txn: u8, out: &mut Line)
-    requires { length out.old.bytes + 42 ≤ 1200 }
+    requires { length out.old.bytes + 42 ≤ LINE_BYTES }
     ensures text { out.new.bytes ≡ out.old.bytes ++ prefix lane txn }
     ensures most { length out.new.bytes ≤ length out.old.bytes + 42 }
 {

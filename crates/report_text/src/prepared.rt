@@ -1,17 +1,17 @@
 //! What Pre-Processing found of a Combination.
-ghost use Rattle.std.specs.Prelude.{◌≡◌, ◌≤◌, ◌+◌, ◌++◌, length, codes, decimal, not};
+ghost use Rattle.std.specs.Prelude.{◌≡◌, ◌≤◌, ◌<◌, ◌+◌, ◌++◌, length, codes, decimal, not};
 ghost use Rattle.ep_claim.specs.Text.ReportLine.{hex, pre_text, truth};
 
 use crate::pieces::{push_hex, push_number, push_truth, push_ttq};
 use acquirer_config::Combination;
-use ep_base::Line;
+use ep_base::{LINE_BYTES, Line};
 use pre_processing::{Indicators, PreparedOne};
 
 /// What was found of the Combination of this number.
 pub(crate) fn push_prepared(number: u8, one: &PreparedOne, out: &mut Line)
     requires { length out.old.bytes ≤ 50 }
     ensures text { out.new.bytes ≡ out.old.bytes ++ pre_text number one.now }
-    ensures most { length out.new.bytes ≤ 1199 }
+    ensures most { length out.new.bytes < LINE_BYTES }
 {
     out.push_str("pre ");
     push_number(u64::from(number), out);
@@ -23,7 +23,7 @@ pub(crate) fn push_prepared(number: u8, one: &PreparedOne, out: &mut Line)
 
 // What the Combination accepts, and its kernel.
 fn push_combination(combination: &Combination, out: &mut Line)
-    requires { length out.old.bytes + 70 ≤ 1200 }
+    requires { length out.old.bytes + 70 ≤ LINE_BYTES }
     ensures text { out.new.bytes ≡ out.old.bytes ++ (codes " aid=" ++ hex combination.now.aid ++ codes " kernel=" ++ decimal combination.now.kernel) }
     ensures most { length out.new.bytes ≤ length out.old.bytes + 70 }
 {
@@ -35,7 +35,7 @@ fn push_combination(combination: &Combination, out: &mut Line)
 
 // The five truths.
 fn push_indicators(found: &Indicators, out: &mut Line)
-    requires { length out.old.bytes + 50 ≤ 1200 }
+    requires { length out.old.bytes + 50 ≤ LINE_BYTES }
     ensures text { out.new.bytes ≡ out.old.bytes
         ++ (codes " allowed=" ++ truth (not found.now.not_allowed)
         ++ codes " status=" ++ truth found.now.status

@@ -1,10 +1,10 @@
 //! The line of a record of a card's log.
-ghost use Rattle.std.specs.Prelude.{◌≡◌, ◌≤◌, ◌++◌, [], length, codes, decimal};
+ghost use Rattle.std.specs.Prelude.{◌≡◌, ◌≤◌, ◌<◌, ◌++◌, [], length, codes, decimal};
 ghost use Rattle.ep_claim.specs.Text.ReportLine.{hex, log_line};
 
 use crate::pieces::{push_hex, push_number, push_prefix};
 use card_image::Record;
-use ep_base::Line;
+use ep_base::{COMMAND, LINE_BYTES, Line};
 
 /// Writes the line of a record of a log, with its newline: the numbers of lane and transaction, then the card's number
 /// and the command that it executed. `out` is empty, and every line fits.
@@ -20,10 +20,10 @@ pub fn log_line(lane: u8, txn: u8, entry: &Record, out: &mut Line)
 
 // A card executed a command.
 fn push_record(card: u8, command: &[u8], out: &mut Line)
-    requires command { length command.now ≤ 261 }
+    requires command { length command.now ≤ COMMAND }
     requires begun { length out.old.bytes ≤ 50 }
     ensures text { out.new.bytes ≡ out.old.bytes ++ (codes "log " ++ decimal card ++ codes " " ++ hex command.now) }
-    ensures most { length out.new.bytes ≤ 1199 }
+    ensures most { length out.new.bytes < LINE_BYTES }
 {
     out.push_str("log ");
     push_number(u64::from(card), out);

@@ -9,10 +9,9 @@ use apdu::{Command, Response};
 use arrayvec::{ArrayString, ArrayVec};
 use card_image::Record;
 use doc_table::{DocFault, DocKind};
-use ep_base::{Buf, CardKind, Line, Message, OutcomeKind};
-use kernel_port::Activation;
+use ep_base::{Buf, COMMAND, CardKind, Line, Message, OutcomeKind, RESPONSE};
+use kernel_port::{Activation, End, Event};
 use pre_processing::{Indicators, PreparedOne};
-use session_event::{End, Event};
 use std::process::Abort;
 
 const NAME: [u8; 7] = [0xa0, 0x00, 0x00, 0x00, 0x03, 0x10, 0x10];
@@ -231,7 +230,7 @@ fn numbers_and_bytes(rt: HostRuntime) {
 
 #[test]
 fn the_longest_line(rt: HostRuntime) {
-    let event = answered(&rt, &[0xff; 261], &[0xff; 258]);
+    let event = answered(&rt, &[0xff; COMMAND], &[0xff; RESPONSE]);
     let mut line = Line::new();
     line_of(255, 255, &event, &mut line);
     assert_eq!(rt; line.len(), 1053);

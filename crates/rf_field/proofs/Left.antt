@@ -4,13 +4,13 @@ use Rattle.std.proofs.lemmas.List.{at_drop_more}
 use Rattle.std.proofs.lemmas.List.Elements.{All-get_or}
 use Rattle.ep_base.specs.Air.Fates.{Fate, next_fate, fates_after}
 use Rattle.rf_field.specs.declared.fates.FateRun.{FateRun}
-use Rattle.rf_field.specs.Meaning.{IsRun, clean_fate, run_of, passages}
+use Rattle.rf_field.specs.Meaning.{IsRun, clean_fate, run_of, exchange_fates}
 
-pub left_at : (runs : List FateRun) (at clean : ℕ) (run is_run : FateRun) (now : List Fate) → clean ≡ 0 → at < length runs → run ≡ get_or runs at run → run ≡ is_run → replicate clean clean_fate ++ passages (drop at runs) ≡ now → run_of is_run ++ passages (drop (at + 1) runs) ≡ now
+pub left_at : (runs : List FateRun) (at clean : ℕ) (run is_run : FateRun) (now : List Fate) → clean ≡ 0 → at < length runs → run ≡ get_or runs at run → run ≡ is_run → replicate clean clean_fate ++ exchange_fates (drop at runs) ≡ now → run_of is_run ++ exchange_fates (drop (at + 1) runs) ≡ now
 left_at runs at clean run is_run now none within found same is =
-    ap (λ (r : FateRun). run_of r ++ passages (drop (at + 1) runs)) (sym same ∙ found)
-    ∙ sym (at_drop_more passages runs at run within)
-    ∙ ap (λ (n : ℕ). replicate n clean_fate ++ passages (drop at runs)) (sym none)
+    ap (λ (r : FateRun). run_of r ++ exchange_fates (drop (at + 1) runs)) (sym same ∙ found)
+    ∙ sym (at_drop_more exchange_fates runs at run within)
+    ∙ ap (λ (n : ℕ). replicate n clean_fate ++ exchange_fates (drop at runs)) (sym none)
     ∙ is
 
 pub run_fits : (runs : List FateRun) (at : ℕ) (run is_run : FateRun) → All IsRun runs → at < length runs → run ≡ get_or runs at run → run ≡ is_run → IsRun is_run

@@ -1,4 +1,5 @@
 pub mod Left
+pub mod OneByOne
 pub mod Replies
 pub mod Rounds
 pub mod Taking

@@ -5,7 +5,7 @@ use Rattle.ep_base.specs.declared.air.CardKind.{CardKind}
 use Rattle.ep_base.specs.Air.Heard.{Sent, wave_of_kind}
 use Rattle.ep_base.specs.Link.Block.{Block}
 use Rattle.ep_base.specs.Link.Spelling.{Read, Reads, Refuses, read_block}
-use Rattle.ep_base.specs.Cards.CardAnswer.{Image, card_answer}
+use Rattle.ep_base.specs.Cards.CardAnswer.{Image, Answered, card_answer}
 use Rattle.ep_base.specs.Link.CardEnd.{Card, card_hears, answers, is_halted, records}
 use Rattle.ep_base.specs.Link.CardEnd as Ends
 use Rattle.ep_base.specs.Link.Wire.{Heeded, unmoved, by_commands, image_after, maybe_frame, answers_by, takes_read, takes_opened}
@@ -105,5 +105,10 @@ execute_by true old mid fin image command frame (Some message) size kind' size' 
 execute_by false old mid fin image command frame None size kind' size' says shows = absurd (execute_isnt_mute command shows.0)
 execute_by false old mid fin image command frame (Some message) size kind' size' says shows = execute_read old mid fin image command frame (read_block message) size kind' size' says shows
 
-pub takes_execute : (old mid fin : HeldCard) (image : Image) (command : List ℕ) (frame : ArrayVec ℕ) (payload : Option (List ℕ)) → mid.fsd ≡ old.fsd → fin.kind ≡ old.kind → fin.fsd ≡ old.fsd → ((log : List (List ℕ)) → Answers (Send frame) fin log (answers mid.fsd mid.number (card_answer image command).0 log)) → ShowsFrame (Execute command) old mid (card_of old) payload → takes_awake (party_by old image) payload ≡ record { party = party_by fin (card_answer image command).1; executed = (image.number, command) ∷ []; answer = Some (record { wave = wave_of_kind old.kind; bytes = frame.items }) }
+takes_execute : (old mid fin : HeldCard) (image : Image) (command : List ℕ) (frame : ArrayVec ℕ) (payload : Option (List ℕ)) → mid.fsd ≡ old.fsd → fin.kind ≡ old.kind → fin.fsd ≡ old.fsd → ((log : List (List ℕ)) → Answers (Send frame) fin log (answers mid.fsd mid.number (card_answer image command).0 log)) → ShowsFrame (Execute command) old mid (card_of old) payload → takes_awake (party_by old image) payload ≡ record { party = party_by fin (card_answer image command).1; executed = (image.number, command) ∷ []; answer = Some (record { wave = wave_of_kind old.kind; bytes = frame.items }) }
 takes_execute old mid fin image command frame payload size kind' size' says shows = execute_by (is_halted (card_of old)) old mid fin image command frame payload size kind' size' says (shows_by (Execute command) old mid payload shows)
+
+-- the same by the bytes that the end took and the answer that it was handed
+pub takes_answered : (old mid fin : HeldCard) (image : Image) (command taken : List ℕ) (answer : Answered) (frame : ArrayVec ℕ) (payload : Option (List ℕ)) → mid.fsd ≡ old.fsd → fin.kind ≡ old.kind → fin.fsd ≡ old.fsd → command ≡ taken → answer ≡ (card_answer image command).0 → ((log : List (List ℕ)) → Answers (Send frame) fin log (answers mid.fsd mid.number answer log)) → ShowsFrame (Execute taken) old mid (card_of old) payload → takes_awake (party_by old image) payload ≡ record { party = party_by fin (card_answer image command).1; executed = (image.number, command) ∷ []; answer = Some (record { wave = wave_of_kind old.kind; bytes = frame.items }) }
+takes_answered old mid fin image command taken answer frame payload size kind' size' same is says shows =
+    takes_execute old mid fin image command frame payload size kind' size' (λ log. subst (λ (a : Answered). Answers (Send frame) fin log (answers mid.fsd mid.number a log)) is (says log)) (subst (λ (bytes : List ℕ). ShowsFrame (Execute bytes) old mid (card_of old) payload) (sym same) shows)

@@ -1,7 +1,21 @@
--- What is in the air while several cards answer one after another (this project's own).
+-- What is in the air, while several cards answer one after another (this project's own).
 use Rattle.std.specs.Prelude.{List, [], ◌∷◌, Option, Some, None, if◌then◌else◌}
 use Rattle.ep_base.specs.Air.Heard.{Sent, Heard, Silence, Noise, Overlap, Frame}
 use Rattle.ep_base.specs.Cards.Field.{same_frame}
+use Rattle.rf_field.specs.declared.aired.Sound.{Sound}
+use Rattle.rf_field.specs.declared.aired.Sound.TheVariants as sounds
+use Rattle.rf_field.specs.declared.aired.Aired.{Aired}
+
+-- What is in the air, by its sort and the frame that was sent last (this project's own).
+abbrev pub aired_by : Sound → Sent → Heard
+aired_by sounds.Silence f = Silence
+aired_by sounds.Noise f = Noise
+aired_by sounds.Overlap f = Overlap
+aired_by sounds.Frame f = Frame f.wave f.bytes
+
+-- What is in the air, in plain data (this project's own).
+abbrev pub aired_of : Aired → Heard
+aired_of a = aired_by a.sound a.sent
 
 -- A frame, and one more.
 abbrev pub also : Sent → Sent → Heard

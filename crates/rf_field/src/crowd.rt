@@ -1,17 +1,18 @@
 //! The cards of a field together.
-ghost use Rattle.std.specs.Prelude.{◌≡◌, map, All, IfOk};
-ghost use Rattle.ep_base.specs.Cards.Field.{all_reset, left_by, joined};
-ghost use Rattle.rf_frame.specs.Meaning.{heard_of};
-ghost use Rattle.rf_field.specs.Airs.{with_answer};
+ghost use Rattle.std.specs.Prelude.{◌≡◌, ◌++◌, map, All, IfOk};
+ghost use Rattle.ep_base.specs.Cards.Field.{one_hears, all_reset, left_by, joined};
+ghost use Rattle.rf_field.specs.declared.aired.Sound.TheVariants as sounds;
+ghost use Rattle.rf_field.specs.Airs.{aired_of, with_answer};
 ghost use Rattle.rf_field.specs.Fields.{hear_all as all_heard};
 ghost use Rattle.rf_field.specs.Plans.{PlanFits, placed_plan};
 
+use crate::aired::{Aired, Sound};
 use crate::placed::Placed;
 use crate::plans::CardPlan;
 use crate::presence::Presence;
 use card_image::CardLog;
 use ep_base::{FrameBuf, NoMemory, Wave};
-use rf_frame::{Heard, Sent};
+use rf_frame::Sent;
 use std::alloc::Global;
 
 // The cards of these plans, none of them present.
@@ -28,27 +29,39 @@ pub(crate) fn place_all(alloc: Global, plans: Vec<CardPlan>) -> Result<Vec<Place
     Ok(cards)
 }
 
-// What is in the air where one more card answers, or doesn't.
-fn with(heard: Heard, answer: Option<Sent>) -> Heard
-    ensures { heard_of result ≡ with_answer (heard_of heard) answer }
+// The first card that answers hears a frame: nothing is in the air before.
+fn hear_first(card: &mut Placed, wave: Wave, frame: &FrameBuf, log: &mut CardLog, aired: &mut Aired)
+    requires { aired.old.sound ≡ sounds.Silence }
+    ensures card { card.new ≡ (one_hears log.old.1 wave frame.now.items log.old.0 card.old).card }
+    ensures logged { log.new ≡ (log.old.0 ++ (one_hears log.old.1 wave frame.now.items log.old.0 card.old).executed, log.old.1) }
+    ensures aired { aired_of aired.new ≡ with_answer (aired_of aired.old) (one_hears log.old.1 wave frame.now.items log.old.0 card.old).answer }
 {
-    let Some(sent) = answer else {
-        return heard;
-    };
-    match heard {
-        Heard::Silence => Heard::Frame {
-            wave: sent.wave,
-            bytes: sent.frame,
-        },
-        Heard::Noise => Heard::Noise,
-        Heard::Overlap => Heard::Overlap,
-        Heard::Frame { wave, bytes } => {
-            if wave == sent.wave && bytes.as_slice() == sent.frame.as_slice() {
-                Heard::Frame { wave, bytes }
-            } else {
-                Heard::Overlap
-            }
-        }
+    if card.hear(wave, frame, log, &mut aired.sent) {
+        aired.sound = Sound::Frame;
+    }
+}
+
+// One more card hears a frame.
+fn hear_more(card: &mut Placed, wave: Wave, frame: &FrameBuf, log: &mut CardLog, aired: &mut Aired)
+    ensures card { card.new ≡ (one_hears log.old.1 wave frame.now.items log.old.0 card.old).card }
+    ensures logged { log.new ≡ (log.old.0 ++ (one_hears log.old.1 wave frame.now.items log.old.0 card.old).executed, log.old.1) }
+    ensures aired { aired_of aired.new ≡ with_answer (aired_of aired.old) (one_hears log.old.1 wave frame.now.items log.old.0 card.old).answer }
+{
+    let mut other = Sent::blank();
+    if card.hear(wave, frame, log, &mut other) {
+        aired.add(&other);
+    }
+}
+
+// What is in the air once one more card heard a frame.
+fn hear_one(card: &mut Placed, wave: Wave, frame: &FrameBuf, log: &mut CardLog, aired: &mut Aired)
+    ensures card { card.new ≡ (one_hears log.old.1 wave frame.now.items log.old.0 card.old).card }
+    ensures logged { log.new ≡ (log.old.0 ++ (one_hears log.old.1 wave frame.now.items log.old.0 card.old).executed, log.old.1) }
+    ensures aired { aired_of aired.new ≡ with_answer (aired_of aired.old) (one_hears log.old.1 wave frame.now.items log.old.0 card.old).answer }
+{
+    match aired.sound {
+        Sound::Silence => hear_first(card, wave, frame, log, aired),
+        Sound::Noise | Sound::Overlap | Sound::Frame => hear_more(card, wave, frame, log, aired),
     }
 }
 
@@ -58,16 +71,16 @@ pub(crate) fn hear_all(
     wave: Wave,
     frame: &FrameBuf,
     log: &mut CardLog,
-) -> Heard
+    aired: &mut Aired,
+)
     ensures cards { cards.new ≡ (all_heard wave frame.now.items log.old cards.old).cards }
     ensures logged { log.new ≡ ((all_heard wave frame.now.items log.old cards.old).log, log.old.1) }
-    ensures heard { heard_of result ≡ joined (all_heard wave frame.now.items log.old cards.old).answers }
+    ensures aired { aired_of aired.new ≡ joined (all_heard wave frame.now.items log.old cards.old).answers }
 {
-    let mut heard = Heard::Silence;
+    aired.sound = Sound::Silence;
     for card in cards.iter_mut() {
-        heard = with(heard, card.hear(wave, frame, log));
+        hear_one(card, wave, frame, log, aired);
     }
-    heard
 }
 
 // The next round began.

@@ -1,25 +1,27 @@
 //! Several cards in a field, under fates.
 ghost use Rattle.std.specs.Prelude.{◌≡◌, All, map, if◌then◌else◌, is_ok, IsOk, IsErr, IfOk};
-ghost use Rattle.ep_base.specs.Air.Fates.{gone_by};
+ghost use Rattle.ep_base.specs.Air.Fates.{gone_by, Bursts};
 ghost use Rattle.ep_base.specs.Streams.Causes.{HasCause};
 ghost use Rattle.ep_base.specs.Air.Medium.{told};
 ghost use Rattle.ep_base.specs.Cards.Field as plain;
-ghost use Rattle.rf_frame.specs.Meaning.{heard_of, maybe_heard};
+ghost use Rattle.rf_frame.specs.Meaning.{maybe_heard, heard_into};
+ghost use Rattle.rf_field.specs.Airs.{aired_of};
 ghost use Rattle.rf_field.specs.Fields.{field_of, hears_by};
-ghost use Rattle.rf_field.specs.Meaning.{IsRun, way_of, fate_of, passages};
+ghost use Rattle.rf_field.specs.Meaning.{IsRun, way_of, fate_of, exchange_fates};
 ghost use Rattle.rf_field.specs.Plans.{PlanFits, placed_plan};
 ghost use Rattle.rf_field.specs.Presences.{lists_of};
 
+use crate::aired::{Aired, Sound};
 use crate::crowd::{hear_all, leave_all, place_all, reset_all};
 use crate::fates::{Fate, FateRun, Way};
-use crate::legs::{comes_back, comes_down};
 use crate::placed::Placed;
 use crate::plans::CardPlan;
 use crate::presence::Presence;
 use crate::runs::Fates;
+use crate::ways::burst_down;
 use card_image::CardLog;
 use ep_base::{Buf, FrameBuf, NoMemory, Wave};
-use rf_frame::{Heard, Medium, RfFailed};
+use rf_frame::{Burst, Heard, Medium, RfFailed};
 use std::alloc::Global;
 
 /// The cards of a transaction in the field of a reader. A reset begins the next round, and each exchange takes the next
@@ -35,6 +37,8 @@ pub struct Field {
     gone: bool,
     rounds: u64,
     exchanges: u64,
+    // What was in the air last.
+    aired: Aired,
 }
 
 impl Field {
@@ -53,7 +57,7 @@ impl Field {
     ) -> Result<Field, NoMemory>
         requires plans { All PlanFits cards.items }
         requires runs { All IsRun fates.items }
-        ensures ok { IfOk result (λ f. field_of f ≡ plain.new_field (map placed_plan cards.items) (lists_of presence.items) (passages fates.items) room) }
+        ensures ok { IfOk result (λ f. field_of f ≡ plain.new_field (map placed_plan cards.items) (lists_of presence.items) (exchange_fates fates.items) room) }
     {
         let cards = place_all(alloc, cards)?;
         let log = CardLog::open(alloc, room)?;
@@ -65,6 +69,7 @@ impl Field {
             gone: false,
             rounds: 0,
             exchanges: 0,
+            aired: Aired::nothing(),
         })
     }
 
@@ -97,26 +102,48 @@ impl Field {
         self.gone
     }
 
+    // What is in the air after a frame on which a burst falls.
+    fn carry_burst(&mut self, burst: Burst, wave: Wave, frame: &FrameBuf)
+        ensures field { field_of self.new ≡ record (field_of self.old) {
+          cards = (hears_by (field_of self.old) (Bursts burst.start burst.mask) wave frame.now.items).cards;
+          log = (hears_by (field_of self.old) (Bursts burst.start burst.mask) wave frame.now.items).log;
+        } }
+        ensures aired { aired_of self.new.aired ≡ plain.joined (hears_by (field_of self.old) (Bursts burst.start burst.mask) wave frame.now.items).answers }
+    {
+        match burst_down(wave, frame, burst) {
+            None => self.aired.sound = Sound::Silence,
+            Some(frame) => hear_all(
+                &mut self.cards,
+                wave,
+                &frame,
+                &mut self.log,
+                &mut self.aired,
+            ),
+        }
+    }
+
     // What is in the air after a frame that takes this way down.
-    fn carry_down(&mut self, way: Way, wave: Wave, frame: &FrameBuf) -> Heard
+    fn carry_down(&mut self, way: Way, wave: Wave, frame: &FrameBuf)
         ensures field { field_of self.new ≡ record (field_of self.old) {
           cards = (hears_by (field_of self.old) (way_of way) wave frame.now.items).cards;
           log = (hears_by (field_of self.old) (way_of way) wave frame.now.items).log;
         } }
-        ensures heard { heard_of result ≡ plain.joined (hears_by (field_of self.old) (way_of way) wave frame.now.items).answers }
+        ensures aired { aired_of self.new.aired ≡ plain.joined (hears_by (field_of self.old) (way_of way) wave frame.now.items).answers }
     {
-        match comes_down(way, wave, frame) {
-            None => Heard::Silence,
-            Some(frame) => hear_all(&mut self.cards, wave, &frame, &mut self.log),
+        match way {
+            Way::Pass => hear_all(&mut self.cards, wave, frame, &mut self.log, &mut self.aired),
+            Way::Burst(burst) => self.carry_burst(burst, wave, frame),
+            Way::Lose | Way::Leave => self.aired.sound = Sound::Silence,
         }
     }
 
     // The cards leave where this fate says so.
     fn depart(&mut self, fate: Fate)
-        ensures { field_of self.new ≡ record (field_of self.old) {
+        ensures field { field_of self.new ≡ record (field_of self.old) {
           cards = (if plain.away (fate_of fate) then plain.left_by (field_of self.old).cards else (field_of self.old).cards);
           air = record { fates = (field_of self.old).air.fates; gone = gone_by (gone_by (field_of self.old).air.gone (way_of fate.down)) (way_of fate.up) };
         } }
+        ensures aired { aired_of self.new.aired ≡ aired_of self.old.aired }
     {
         if fate.down == Way::Leave || fate.up == Way::Leave {
             leave_all(&mut self.cards);
@@ -152,15 +179,34 @@ impl Medium for Field {
     }
 
     /// Makes one exchange. There is no error.
-    fn send(&mut self, wave: Wave, frame: &FrameBuf, _wait: u32) -> Result<Heard, RfFailed>
-        ensures step { (told plain.field).sends (field_of self.old) wave frame.now.items _wait (maybe_heard result) (field_of self.new) }
+    fn send(&mut self, wave: Wave, frame: &FrameBuf, wait: u32) -> Result<Heard, RfFailed>
+        ensures step { (told plain.field).sends (field_of self.old) wave frame.now.items wait (maybe_heard result) (field_of self.new) }
+        ensures cause { HasCause 0 0 (IsErr result) }
+        ensures always { IsOk result }
+    {
+        let mut heard = Heard::Silence;
+        self.send_into(wave, frame, wait, &mut heard)?;
+        Ok(heard)
+    }
+
+    /// Makes one exchange, and writes what is heard in place of what stood there. There is no error.
+    fn send_into(
+        &mut self,
+        wave: Wave,
+        frame: &FrameBuf,
+        _wait: u32,
+        heard: &mut Heard,
+    ) -> Result<(), RfFailed>
+        ensures step { (told plain.field).sends (field_of self.old) wave frame.now.items _wait (heard_into result heard.new) (field_of self.new) }
         ensures cause { HasCause 0 0 (IsErr result) }
         ensures always { IsOk result }
     {
         let fate = self.fates.next();
-        let heard = self.carry_down(fate.down, wave, frame);
+        self.carry_down(fate.down, wave, frame);
         self.depart(fate);
         self.exchanges = self.exchanges.saturating_add(1);
-        Ok(comes_back(fate.up, heard))
+        self.aired.come_back(fate.up);
+        self.aired.put(heard);
+        Ok(())
     }
 }

@@ -1,11 +1,11 @@
 //! A card's side outside the block protocol.
 ghost use Rattle.std.specs.Prelude.{◌≡◌};
 ghost use Rattle.ep_base.specs.Cards.Field.{outside_after, outside_reply, outside_reset, outside_halted};
-ghost use Rattle.rf_frame.specs.Meaning.{card_hear_of};
+ghost use Rattle.rf_frame.specs.Meaning.{reply_of};
 ghost use Rattle.rf_field.specs.Outsides.{outside_of};
 
 use ep_base::{FrameBuf, Wave};
-use rf_frame::CardHear;
+use rf_frame::{CardDoes, Sent};
 use type_a::ACard;
 use type_b::BCard;
 
@@ -17,14 +17,15 @@ pub(crate) enum Outside {
 }
 
 impl Outside {
-    // What the card does with a frame. In the block protocol it passes on the frames of its own wave.
-    pub(crate) fn hear(&mut self, wave: Wave, frame: &FrameBuf) -> CardHear
+    // What the card does with a frame; what it sends is written. In the block protocol it passes on the frames of its own
+    // wave.
+    pub(crate) fn hear(&mut self, wave: Wave, frame: &FrameBuf, sent: &mut Sent) -> CardDoes
         ensures after { outside_of self.new ≡ outside_after wave frame.now.items (outside_of self.old) }
-        ensures reply { card_hear_of result ≡ outside_reply wave frame.now.items (outside_of self.old) }
+        ensures reply { reply_of result sent.new ≡ outside_reply wave frame.now.items (outside_of self.old) }
     {
         match self {
-            Outside::A(card) => card.hear(wave, frame),
-            Outside::B(card) => card.hear(wave, frame),
+            Outside::A(card) => card.hear_into(wave, frame, sent),
+            Outside::B(card) => card.hear_into(wave, frame, sent),
         }
     }
 

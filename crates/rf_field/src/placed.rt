@@ -3,14 +3,15 @@ ghost use Rattle.std.specs.Prelude.{◌≡◌, ◌<◌, ◌++◌, length};
 ghost use Rattle.std.specs.Prelude.{false};
 ghost use Rattle.ep_base.specs.Cards.Field.{hears_frame, by_link, one_hears, placed_reset};
 ghost use Rattle.ep_base.specs.Link.Wire.{takes_frame};
+ghost use Rattle.rf_frame.specs.Meaning.{answer_if};
 ghost use Rattle.rf_field.specs.Plans.{PlanFits, placed_plan};
 
 use crate::outside::Outside;
 use crate::party::Party;
 use crate::plans::CardPlan;
 use card_image::CardLog;
-use ep_base::{CardKind, FrameBuf, Wave};
-use rf_frame::{CardHear, Sent};
+use ep_base::{CardKind, FRAME_16, FrameBuf, Wave};
+use rf_frame::{CardDoes, Sent};
 use std::marker::Model;
 use type_a::ACard;
 use type_b::BCard;
@@ -42,58 +43,77 @@ impl Placed {
             CardPlan::A(plan, image) => Placed {
                 present: false,
                 outside: Outside::A(ACard::open(plan)),
-                party: Party::open(CardKind::A, 256, image),
+                party: Party::open(CardKind::A, FRAME_16, image),
             },
             CardPlan::B(plan, image) => Placed {
                 present: false,
                 outside: Outside::B(BCard::open(plan)),
-                party: Party::open(CardKind::B, 256, image),
+                party: Party::open(CardKind::B, FRAME_16, image),
             },
         }
     }
 
-    // What a present card sends after a frame. What it executes is listed in the log.
-    fn hear_frame(&mut self, wave: Wave, frame: &FrameBuf, log: &mut CardLog) -> Option<Sent>
+    // Whether a present card sends something after a frame. What it sends is written, and what it executes is listed in
+    // the log.
+    fn hear_frame(
+        &mut self,
+        wave: Wave,
+        frame: &FrameBuf,
+        log: &mut CardLog,
+        sent: &mut Sent,
+    ) -> bool
         requires { length log.old.0 < log.old.1 }
         ensures card { self.new ≡ (hears_frame self.old wave frame.now.items).card }
         ensures logged { log.new ≡ (log.old.0 ++ (hears_frame self.old wave frame.now.items).executed, log.old.1) }
-        ensures answer { result ≡ (hears_frame self.old wave frame.now.items).answer }
+        ensures answer { answer_if result sent.new ≡ (hears_frame self.old wave frame.now.items).answer }
     {
-        match self.outside.hear(wave, frame) {
-            CardHear::Mute => None,
-            CardHear::Send(answer) => Some(answer),
-            CardHear::Opened { answer, fsd } => {
+        match self.outside.hear(wave, frame, sent) {
+            CardDoes::Mute => false,
+            CardDoes::Send => true,
+            CardDoes::Opened { fsd } => {
                 self.party.reopen(fsd);
-                Some(answer)
+                true
             }
-            CardHear::Passed => self.hear_block(wave, frame, log),
+            CardDoes::Passed => self.hear_block(wave, frame, log, sent),
         }
     }
 
-    // What a card in the block protocol sends after a frame of its own wave.
-    fn hear_block(&mut self, wave: Wave, frame: &FrameBuf, log: &mut CardLog) -> Option<Sent>
+    // Whether a card in the block protocol sends something after a frame of its own wave.
+    fn hear_block(
+        &mut self,
+        wave: Wave,
+        frame: &FrameBuf,
+        log: &mut CardLog,
+        sent: &mut Sent,
+    ) -> bool
         requires { length log.old.0 < log.old.1 }
         ensures card { self.new ≡ (by_link self.old (takes_frame self.old.party wave frame.now.items)).card }
         ensures logged { log.new ≡ (log.old.0 ++ (takes_frame self.old.party wave frame.now.items).executed, log.old.1) }
-        ensures answer { result ≡ (takes_frame self.old.party wave frame.now.items).answer }
+        ensures answer { answer_if result sent.new ≡ (takes_frame self.old.party wave frame.now.items).answer }
     {
-        let answer = self.party.hear(wave, frame, log);
+        let answers = self.party.hear(wave, frame, log, sent);
         if self.party.halted() {
             self.outside.halt();
         }
-        answer
+        answers
     }
 
-    // What the card sends after a frame, which it hears where it is present and the log has a free record.
-    pub(crate) fn hear(&mut self, wave: Wave, frame: &FrameBuf, log: &mut CardLog) -> Option<Sent>
+    // Whether the card sends something after a frame, which it hears where it is present and the log has a free record.
+    pub(crate) fn hear(
+        &mut self,
+        wave: Wave,
+        frame: &FrameBuf,
+        log: &mut CardLog,
+        sent: &mut Sent,
+    ) -> bool
         ensures card { self.new ≡ (one_hears log.old.1 wave frame.now.items log.old.0 self.old).card }
         ensures logged { log.new ≡ (log.old.0 ++ (one_hears log.old.1 wave frame.now.items log.old.0 self.old).executed, log.old.1) }
-        ensures answer { result ≡ (one_hears log.old.1 wave frame.now.items log.old.0 self.old).answer }
+        ensures answer { answer_if result sent.new ≡ (one_hears log.old.1 wave frame.now.items log.old.0 self.old).answer }
     {
         if self.present && log.spare() > 0 {
-            self.hear_frame(wave, frame, log)
+            self.hear_frame(wave, frame, log, sent)
         } else {
-            None
+            false
         }
     }
 

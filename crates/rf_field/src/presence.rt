@@ -1,6 +1,6 @@
 //! Which cards are present in the rounds to come.
 ghost use Rattle.std.specs.Prelude.{◌≡◌};
-ghost use Rattle.ep_base.specs.Cards.Field.{is_present, names, next_presence};
+ghost use Rattle.ep_base.specs.Cards.Field.{is_present, has_number, next_presence};
 ghost use Rattle.rf_field.specs.Presences.{lists_of};
 
 use ep_base::Buf;
@@ -59,7 +59,7 @@ impl Presence {
 
 // Whether a number is in a list.
 fn is_listed(list: &[u8], number: usize) -> bool
-    ensures { result ≡ names number list.now }
+    ensures { result ≡ has_number number list.now }
 {
     for listed in list {
         if usize::from(*listed) == number {

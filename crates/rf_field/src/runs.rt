@@ -1,7 +1,7 @@
 //! The fates that are left of a list.
 ghost use Rattle.std.specs.Prelude.{◌≡◌, All};
 ghost use Rattle.ep_base.specs.Air.Fates.{next_fate, fates_after};
-ghost use Rattle.rf_field.specs.Meaning.{IsRun, fate_of, passages};
+ghost use Rattle.rf_field.specs.Meaning.{IsRun, fate_of, exchange_fates};
 
 use crate::fates::{Fate, FateRun, Way};
 use std::marker::Model;
@@ -23,12 +23,12 @@ pub(crate) struct Fates {
 
 impl Model for Fates {
     ghost use Rattle.std.specs.Prelude.{List, ◌++◌, replicate, drop, All};
-    ghost use Rattle.ep_base.specs.Air.Fates.{Fate as Passage};
-    ghost use Rattle.rf_field.specs.Meaning.{IsRun, clean_fate, passages};
+    ghost use Rattle.ep_base.specs.Air.Fates.{Fate as FateData};
+    ghost use Rattle.rf_field.specs.Meaning.{IsRun, clean_fate, exchange_fates};
 
-    ghost Value = { List Passage };
+    ghost Value = { List FateData };
 
-    ghost view = { λ f. replicate f.clean clean_fate ++ passages (drop f.at f.runs.items) };
+    ghost view = { λ f. replicate f.clean clean_fate ++ exchange_fates (drop f.at f.runs.items) };
 
     ghost invariant = { λ f. All IsRun f.runs.items };
 }
@@ -37,7 +37,7 @@ impl Fates {
     // The fates of these runs, each of at least one exchange.
     pub(crate) fn of(runs: Vec<FateRun>) -> Fates
         requires { All IsRun runs.items }
-        ensures { result ≡ passages runs.items }
+        ensures { result ≡ exchange_fates runs.items }
     {
         Fates {
             runs,

@@ -1,7 +1,7 @@
 -- The medium of this crate's tests: it answers from a list, and fails at listed calls.
 use Rattle.std.specs.Prelude.{ℕ, ◌+◌, ◌-◌, ◌^◌, ◌==◌, Bool, true, false, List, Option, Some, None, slice_get, min, if◌then◌else◌}
 use Rattle.std.specs.List.{list_any}
-use Rattle.ep_base.specs.Air.Heard.{Heard as Hearing, Silence}
+use Rattle.ep_base.specs.Air.Heard.{Heard as HeardData, Silence}
 use Rattle.ep_base.specs.Air.Medium.{ToldMedium}
 use Rattle.rf_frame.specs.declared.air.Heard.{Heard}
 use Rattle.rf_frame.specs.Meaning.{heard_of}
@@ -26,7 +26,7 @@ abbrev pub is_listed : Listed → Bool
 is_listed s = list_any (λ n. n == s.calls) s.fails
 
 -- The answer at a place, and silence after the last.
-abbrev pub hearing_at : Option Heard → Hearing
+abbrev pub hearing_at : Option Heard → HeardData
 hearing_at (Some h) = heard_of h
 hearing_at None = Silence
 

@@ -61,6 +61,6 @@ answer_if true answer = Some answer
 answer_if false answer = None
 
 -- An awaited answer: the message that it lends, or the end of the round.
-abbrev pub awaited_of : Result (Bor (List ℕ)) RoundEnd → air.Awaited
+abbrev pub awaited_of : Result (Bor (List ℕ)) RoundEnd → air.RoundAnswer
 awaited_of (Ok message) = air.Says message.now
 awaited_of (Err e) = air.Fails (round_end_of e)

@@ -117,9 +117,9 @@ pub struct Ask {
 }
 
 impl Model for Ask {
-    ghost use Rattle.ep_base.specs.Air.Heard.{Ask as Asked};
+    ghost use Rattle.ep_base.specs.Air.Heard.{Ask as AskData};
 
-    ghost Value = { Asked };
+    ghost Value = { AskData };
 
     ghost view = { λ a. record { reset = a.reset; wave = a.wave; bytes = a.frame.items; wait = a.wait } };
 
@@ -162,9 +162,9 @@ pub struct Sent {
 }
 
 impl Model for Sent {
-    ghost use Rattle.ep_base.specs.Air.Heard.{Sent as Framed};
+    ghost use Rattle.ep_base.specs.Air.Heard.{Sent as SentData};
 
-    ghost Value = { Framed };
+    ghost Value = { SentData };
 
     ghost view = { λ s. record { wave = s.wave; bytes = s.frame.items } };
 

@@ -5,11 +5,11 @@ ghost use Rattle.arrayvec.specs.ArrayVec.{array_vec_len};
 ghost use Rattle.ep_base.specs.Air.Frame.{is_good, ends_in_check, sealed, opened};
 
 use crate::check;
-use ep_base::{FrameBuf, MESSAGE, Wave};
+use ep_base::{FRAME, FrameBuf, MESSAGE, Wave};
 
 /// Puts these bytes, at most 256, in place of all that a frame has. This takes no memory.
 pub fn refill(frame: &mut FrameBuf, bytes: &[u8])
-    requires { length bytes.now ≤ 256 }
+    requires { length bytes.now ≤ FRAME }
     ensures { frame.new.items ≡ bytes.now }
 {
     frame.clear();

@@ -1,4 +1,5 @@
 use super::*;
+use ep_base::MESSAGE;
 use std::test::Fail;
 
 fn framed(bytes: &[u8]) -> Result<FrameBuf, Fail> {
@@ -53,7 +54,7 @@ fn checks_as_sent(rt: HostRuntime) -> Result<(), Fail> {
             "the check of {message:?}"
         );
         let mut frame = framed(message)?;
-        assert!(rt; frame.len() <= 254);
+        assert!(rt; frame.len() <= MESSAGE);
         seal(*wave, &mut frame);
         let mut sent = framed(message)?;
         sent.try_extend_from_slice(sum)?;
@@ -173,7 +174,7 @@ impl Medium for Untold {
 
 fn heard(wave: Wave, message: &[u8]) -> Result<Heard, Fail> {
     let mut bytes = framed(message)?;
-    if bytes.len() <= 254 {
+    if bytes.len() <= MESSAGE {
         seal(wave, &mut bytes);
     }
     Ok(Heard::Frame { wave, bytes })

@@ -1,7 +1,8 @@
 pub mod Accepted
 pub mod Document
+pub mod Jobs
 pub mod Outcomes
 pub mod Plan
-pub mod Scene
+pub mod Scenario
 pub mod Scripts
 pub mod Turns

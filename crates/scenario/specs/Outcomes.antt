@@ -10,6 +10,7 @@ use Rattle.ep_base.specs.declared.outcome.OutcomeKind.TheVariants as outcomes
 use Rattle.ep_base.specs.declared.outcome.Message.{Message}
 use Rattle.ep_base.specs.declared.outcome.Message.TheVariants as messages
 use Rattle.ep_base.specs.Cards.Apdu.{same_bytes}
+use Rattle.ep_base.specs.Streams.Words.{is_space}
 use Rattle.ep_claim.specs.Text.ReportLine.{kind_word, message_row}
 use Rattle.ep_rules.specs.EntryPoint.Event.{Verdict}
 use Rattle.doc_table.specs.Read.{◌>>=◌, Reader, of_kind, allowed}
@@ -55,10 +56,6 @@ outcome_with None message = None
 abbrev pub outcome_alone : Option OutcomeKind → Option Verdict
 outcome_alone (Some kind) = Some (record { kind = kind; message = None })
 outcome_alone None = None
-
--- Whether a byte is a space (this project's own).
-abbrev pub is_space : ℕ → Bool
-is_space b = b == 32
 
 -- Whether a text has a space (this project's own).
 abbrev pub has_space : List ℕ → Bool

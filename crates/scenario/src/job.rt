@@ -3,13 +3,13 @@ ghost use Rattle.std.specs.Prelude.{◌≡◌, ◌+◌, ◌≤◌, length, map, 
 ghost use Rattle.ep_rules.specs.EntryPoint.Configuration.{count_of};
 ghost use Rattle.ep_rules.specs.EntryPoint.Kernel.{steps_left};
 ghost use Rattle.ep_rules.specs.EntryPoint.Bounds.{log_bound};
-ghost use Rattle.scenario.specs.Scene.{work_of};
+ghost use Rattle.scenario.specs.Scenario.{work_of};
 ghost use Rattle.scenario.specs.Scripts.{AreScripts};
 
 use crate::transaction::Transaction;
 use acquirer_config::Config;
 use card_table::plans_of;
-use ep_base::NoMemory;
+use ep_base::{NAMED, NoMemory};
 use kernel_port::{Script, Scripts};
 use rf_field::Field;
 use std::alloc::Global;
@@ -31,7 +31,7 @@ pub struct Job {
 impl Model for Job {
     ghost use Rattle.kernel_port.specs.Scripts.{scripted_of};
     ghost use Rattle.rf_field.specs.Fields.{field_of};
-    ghost use Rattle.scenario.specs.Scene.{Work};
+    ghost use Rattle.scenario.specs.Scenario.{Work};
 
     ghost Value = { Work };
 
@@ -91,7 +91,7 @@ fn room_for(config: &Config, txn_type: u8, scripts: &[Script]) -> usize
         .iter()
         .filter(|c| c.txn_type == txn_type)
         .count();
-    (1 + scripts.len()) * (1 + 28 * combinations) + count_steps(scripts) + 1
+    (1 + scripts.len()) * (1 + NAMED * combinations) + count_steps(scripts) + 1
 }
 
 // The steps of all scripts.

@@ -4,7 +4,7 @@ ghost use Rattle.toml.specs.View.{table_view};
 ghost use Rattle.doc_table.specs.Read.{FailsSo};
 ghost use Rattle.scenario.specs.Document.{Says};
 ghost use Rattle.scenario.specs.Plan.{plan};
-ghost use Rattle.scenario.specs.Scene.{work_of, scene_of};
+ghost use Rattle.scenario.specs.Scenario.{work_of, scenario_of};
 
 use crate::document::{Document, plan};
 use crate::job::{Job, open_lane};
@@ -48,9 +48,9 @@ pub struct Scenario {
 impl Model for Scenario {
     ghost use Rattle.std.specs.Prelude.{map, option_map};
     ghost use Rattle.trace_io.specs.Meaning.{traced_of};
-    ghost use Rattle.scenario.specs.Scene.{Scene};
+    ghost use Rattle.scenario.specs.Scenario.{Scenario as ScenarioData};
 
-    ghost Value = { Scene };
+    ghost Value = { ScenarioData };
 
     ghost view = { λ s. record {
       config = s.config;
@@ -91,7 +91,7 @@ impl Scenario {
     ///
     /// Errors: `NoMemory`.
     pub fn open(alloc: Global, document: Document) -> Result<Scenario, NoMemory>
-        ensures { IfOk result (λ s. s ≡ scene_of document) }
+        ensures { IfOk result (λ s. s ≡ scenario_of document) }
     {
         let Document {
             config,

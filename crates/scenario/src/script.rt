@@ -8,8 +8,9 @@ ghost use Rattle.doc_table.specs.Section.{place};
 ghost use Rattle.scenario.specs.Scripts.{step_at, script_at};
 
 use crate::outcome::OutcomeText;
-use apdu::Command;
+use apdu::{Command, SUCCESS};
 use doc_table::{DocFault, DocKind, ListOf, Path, Read, Section, TableEnd, sized};
+use ep_base::COMMAND;
 use kernel_port::{Outcome, OutcomeKind, Script, Step};
 use std::alloc::Global;
 use toml::Value;
@@ -55,7 +56,7 @@ fn command_text(path: &Path, value: &Value) -> Result<Command, DocFault>
 fn command_spelled(text: &str) -> Option<Command>
     ensures { result ≡ spelled is_command (decode_of text.now) }
 {
-    let bytes = sized::<261>(text, 4, 261)?;
+    let bytes = sized::<COMMAND>(text, 4, COMMAND)?;
     Command::of(bytes.as_slice()).ok()
 }
 
@@ -89,7 +90,7 @@ fn step_at(alloc: Global, section: &Section) -> Result<Step, TableEnd>
     ensures { GivesIfRoom (λ s. s) result (step_at (place section.now)) }
 {
     let send = section.required(alloc, "send", &CommandText)?;
-    let want = section.array::<2>("want")?.unwrap_or([0x90, 0x00]);
+    let want = section.array::<2>("want")?.unwrap_or(SUCCESS.to_be_bytes());
     let other = section.defaulted(alloc, "other", &OutcomeText, END)?;
     Ok(Step {
         send,

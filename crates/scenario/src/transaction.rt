@@ -34,7 +34,7 @@ pub struct Transaction {
 
 impl Model for Transaction {
     ghost use Rattle.std.specs.Prelude.{◌≤◌, All, length};
-    ghost use Rattle.rf_field.specs.Meaning.{IsRun, passages};
+    ghost use Rattle.rf_field.specs.Meaning.{IsRun, exchange_fates};
     ghost use Rattle.rf_field.specs.Presences.{lists_of};
     ghost use Rattle.scenario.specs.Plan.{Transaction};
     ghost use Rattle.scenario.specs.Scripts.{AreScripts};
@@ -46,7 +46,7 @@ impl Model for Transaction {
       amount = t.amount;
       cards = t.cards.items;
       presence = lists_of t.presence.items;
-      fates = passages t.fates.items;
+      fates = exchange_fates t.fates.items;
       scripts = t.scripts.items;
     } };
 

@@ -5,7 +5,7 @@ use Rattle.std.specs.declared.option.Option.{Option}
 use Rattle.std.specs.Option.{option_map}
 use Rattle.ep_base.specs.Cards.Apdu.{select}
 use Rattle.ep_base.specs.Objects.Arena.{Object, value_in}
-use Rattle.ep_rules.specs.EntryPoint.PreProcessing.{Ready}
+use Rattle.ep_rules.specs.EntryPoint.PreProcessing.{PreparedOne}
 use Rattle.ep_base.specs.Objects.Directory.{Entry, entry_held, held_from, entries_held}
 use Rattle.ep_rules.specs.EntryPoint.Candidates.{Candidate, extended_name, final_command}
 use Rattle.select_rules.specs.declared.pair.Pair.{Pair}
@@ -22,21 +22,21 @@ held-get n (suc count) objects (suc place) e here =
     held-get (n + 1) count objects place e here ∙ ap (λ k. entry_held k objects) (omega arith)
 
 -- the entry of a candidate that is there
-entry_there : (ones : List Ready) (count : ℕ) (objects : List Object) (c : Candidate) → (there : IsThere ones (entries_held count objects) c) → there.entry ≡ entry_held c.entry objects
+entry_there : (ones : List PreparedOne) (count : ℕ) (objects : List Object) (c : Candidate) → (there : IsThere ones (entries_held count objects) c) → there.entry ≡ entry_held c.entry objects
 entry_there ones count objects c there =
     held-get 1 count objects there.place there.entry there.here ∙ ap (λ k. entry_held k objects) (omega arith)
 
 -- its name
-name_there : (ones : List Ready) (count : ℕ) (objects : List Object) (c : Candidate) → IsThere ones (entries_held count objects) c → name_of (entry_held c.entry objects) ≡ Some c.name
+name_there : (ones : List PreparedOne) (count : ℕ) (objects : List Object) (c : Candidate) → IsThere ones (entries_held count objects) c → name_of (entry_held c.entry objects) ≡ Some c.name
 name_there ones count objects c there =
     subst (λ (e : Entry). name_of e ≡ Some c.name) (entry_there ones count objects c there) (rw there.named there.name)
 
 -- the first pair is that of the first candidate
-pub first_place : (ones : List Ready) (entries : List Entry) (pairs : List Pair) (first : Option Pair) → first ≡ slice_get pairs 0 →
+pub first_place : (ones : List PreparedOne) (entries : List Entry) (pairs : List Pair) (first : Option Pair) → first ≡ slice_get pairs 0 →
     (left : List Candidate) → StandsFor ones entries pairs left → first ≡ option_map place_of (slice_get left 0)
 first_place ones entries pairs first is left stands = is ∙ ap (λ (ps : List Pair). slice_get ps 0) stands.are ∙ slice_get-map place_of left 0
 
-module _ (ones : List Ready) (count : ℕ) (objects : List Object) (pairs : List Pair) (pair : Pair) where
+module _ (ones : List PreparedOne) (count : ℕ) (objects : List Object) (pairs : List Pair) (pair : Pair) where
   pub first_name : (left : List Candidate) → Some pair ≡ slice_get pairs 0 → StandsFor ones (entries_held count objects) pairs left →
       name_of (entry_held pair.entry objects) ≡ option_map (λ c. c.name) (slice_get left 0)
   first_name [] first stands = let none = stands.are in cc
@@ -44,7 +44,7 @@ module _ (ones : List Ready) (count : ℕ) (objects : List Object) (pairs : List
       let same : pair ≡ place_of c = let are = stands.are in cc in
       ap (λ (p : Pair). name_of (entry_held p.entry objects)) same ∙ name_there ones count objects c stands.each.0
 
-  pub first_command : (left : List Candidate) (name : List ℕ) (one : Ready) (supported : Bool) (extension : Option (List ℕ)) →
+  pub first_command : (left : List Candidate) (name : List ℕ) (one : PreparedOne) (supported : Bool) (extension : Option (List ℕ)) →
       Some pair ≡ slice_get pairs 0 → StandsFor ones (entries_held count objects) pairs left →
       Some name ≡ name_of (entry_held pair.entry objects) → Some one ≡ option_map (λ c. c.one) (slice_get left 0) →
       supported ≡ one.combination.extended → extension ≡ value_in pair.entry 0x9f29 objects →
@@ -57,7 +57,7 @@ module _ (ones : List Ready) (count : ℕ) (objects : List Object) (pairs : List
       named ∙ ap (λ (p : Pair). name_of (entry_held p.entry objects)) same ∙ name_there ones count objects c there in
       let own_name : name ≡ c.name = cc in
       let own_one : one ≡ c.one = cc in
-      let own_support : supported ≡ c.one.combination.extended = does ∙ ap (λ (r : Ready). r.combination.extended) own_one in
+      let own_support : supported ≡ c.one.combination.extended = does ∙ ap (λ (r : PreparedOne). r.combination.extended) own_one in
       let own_extension : extension ≡ c.extension =
       held ∙ ap (λ (p : Pair). value_in p.entry 0x9f29 objects) same
       ∙ sym (ap (λ (e : Entry). e.extension) (entry_there ones count objects c there)) ∙ there.extension in

@@ -1,8 +1,9 @@
 -- What the code keeps of an entry that can be a candidate (this project's own).
 use Rattle.std.specs.Prelude.{◌≡◌, ℕ, true, false, List, if◌then◌else◌, Some, None}
 use Rattle.std.specs.declared.option.Option.{Option}
-use Rattle.ep_rules.specs.EntryPoint.PreProcessing.{Ready}
+use Rattle.ep_rules.specs.EntryPoint.PreProcessing.{PreparedOne}
 use Rattle.ep_base.specs.Objects.Directory.{Entry, is_named}
+use Rattle.ep_base.specs.declared.limits.TheConstants.{TYPE_COMBINATIONS}
 use Rattle.ep_rules.specs.EntryPoint.Candidates.{fits, requested_by, priority_key}
 use Rattle.select_rules.specs.declared.offer.Offer.{Offer}
 
@@ -19,9 +20,9 @@ pub record OfferOf (e : Entry) (o : Offer) : Type 0 where
 
 -- Nothing is kept of an entry that fits no Combination.
 abbrev pub Offers : Entry → Option Offer → Type 0
-Offers e None = (one : Ready) → fits e one ≡ false
+Offers e None = (one : PreparedOne) → fits e one ≡ false
 Offers e (Some o) = OfferOf e o
 
 -- How many pairs an entry can have with 16 Combinations.
 abbrev pub most_pairs : Entry → ℕ
-most_pairs e = if is_named e then 16 else 0
+most_pairs e = if is_named e then TYPE_COMBINATIONS else 0

@@ -3,6 +3,7 @@
 use crate::{Candidates, Pair};
 use acquirer_config::Config;
 use apdu::Response;
+use ep_base::{ARENA_BYTES, ARENA_SLOTS};
 use ppse::read_directory;
 use pre_processing::{Prepared, prepare};
 use std::alloc::Global;
@@ -21,7 +22,7 @@ fn read(alloc: Global, document: &str, answer: &str) -> Option<Selection> {
     let table = toml::table_from_str(alloc, document).ok()?;
     let config = Config::of_table(alloc, &table).ok()?;
     let prepared = prepare(&config, 0, 1000);
-    let mut arena = Arena::open(alloc, 1024, 192).ok()?;
+    let mut arena = Arena::open(alloc, ARENA_BYTES, ARENA_SLOTS).ok()?;
     let bytes = hex::decode(alloc, answer).ok()?;
     let answer = Response::of(&bytes).ok()?;
     let directory = read_directory(&mut arena, &answer);

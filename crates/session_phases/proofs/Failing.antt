@@ -11,18 +11,24 @@ use Rattle.ep_base.specs.Link.Block.{ReadBlock, is_bad, count}
 use Rattle.ep_base.specs.Link.Carry.{turn_on}
 use Rattle.ep_base.specs.declared.outcome.OutcomeKind.{OutcomeKind}
 use Rattle.ep_base.specs.Air.Heard.{Heard, RoundEnd}
-use Rattle.ep_base.specs.Link.LinkEvents.{AreKept, kept_after, exchange_of}
+use Rattle.ep_base.specs.Link.LinkEvents.{AreSince, kept_after, exchange_of}
 use Rattle.ep_base.specs.Link.LinkFrames.{LinkSetting, Kept, heard_block}
 use Rattle.ep_base.specs.Poll.Radio.{OpenLink}
-use Rattle.ep_base.specs.Link.ReaderEnd.{Reader, Phase, Turn, Asks, Gives, Spends, Breaks}
-use Rattle.ep_rules.specs.EntryPoint.Event.{Said, Tells, Outcome, Verdict}
+use Rattle.ep_base.specs.Link.ReaderEnd.{Reader, Phase, ReaderTurn, Asks, Gives, Spends, Breaks}
+use Rattle.ep_rules.specs.EntryPoint.Event.{Event as EventData, Tells, Outcome, Verdict}
 use Rattle.ep_claim.specs.Lanes.Standing.{Doing, Carries}
-use Rattle.session_event.specs.declared.event.End.TheVariants as ending
-use Rattle.session_phases.specs.Causes.{FindsNone, block_in, bad_in, SpentOver, BrokenOver, FailsOver, FailedIn, HasOutcome}
-use Rattle.session_phases.specs.Ends.{end_of_failure}
+use Rattle.kernel_port.specs.declared.event.End.{End}
+use Rattle.kernel_port.specs.declared.event.End.TheVariants as ending
+use Rattle.session_phases.specs.Causes.{FindsNone, block_in, bad_in, SpentOver, BrokenOver, FailsOver, HasOutcome}
 use Rattle.session_phases.specs.Plain as plain
-use Rattle.session_phases.specs.Shown.{FitsThen, LeftThen, NoneThen, PollsThen, NoRoundThen, IsCarded, NoFailureThen, DoneThen, FailsThen, FailedThen}
+use Rattle.session_phases.specs.Shown.{FitsThen, LeftThen, NoneThen, PollsThen, NoRoundThen, NoFailureThen, DoneThen, FailsThen, FailedThen}
 use Rattle.session_phases.specs.Told.{message_said, outcome_said}
+
+-- The end of a transaction whose link has failed so.
+abbrev pub end_of_failure : LinkEnd → End
+end_of_failure (failures.Spent bad) = ending.Link
+end_of_failure (failures.Breach b) = ending.Breach
+end_of_failure failures.Device = ending.Link
 
 -- ---- the exchanges that are kept
 
@@ -38,7 +44,7 @@ count_more p x [] = refl
 count_more p x (y ∷ ys) = ap (λ (n : ℕ). cond (p y) (suc n) n) (count_more p x ys) ∙ counted_so (p y) (p x) (count p ys)
 
 -- As many exchanges are bad as hearings since the toggle.
-bad_kept : (set : LinkSetting) (n : Bool) (phase : Phase) (hs : List ReadBlock) (ks : List Kept) → AreKept set n phase hs ks → bad_in set (reverse ks) ≡ count is_bad hs
+bad_kept : (set : LinkSetting) (n : Bool) (phase : Phase) (hs : List ReadBlock) (ks : List Kept) → AreSince set n phase hs ks → bad_in set (reverse ks) ≡ count is_bad hs
 bad_kept set n phase [] [] all = refl
 bad_kept set n phase [] (k ∷ ks) all = absurd all
 bad_kept set n phase (h ∷ hs) [] all = absurd all
@@ -56,7 +62,7 @@ both true b is = refl
 both false b is = sym is
 
 module _ (set : LinkSetting) (r : Reader) (heard : Heard) (e : Held) (old : List Kept) where
-  spent : (bad : ℕ) (t : Turn) → turn_on set r heard ≡ t → Says (nexts.Failed (failures.Spent bad)) e.set heard t → KeepsLast e heard t → e.set ≡ set
+  spent : (bad : ℕ) (t : ReaderTurn) → turn_on set r heard ≡ t → Says (nexts.Failed (failures.Spent bad)) e.set heard t → KeepsLast e heard t → e.set ≡ set
       → e.since ≡ kept_after old r t (exchange_of set r heard) → is_bad (heard_block set.kind set.frames.reader heard) ≡ true → SpentOver heard (record { set = set; reader = r }) e
   spent bad (Spends q) is says last same kept was = record {
     reader = q;
@@ -72,33 +78,27 @@ module _ (set : LinkSetting) (r : Reader) (heard : Heard) (e : Held) (old : List
   spent bad (Gives response q) is says last same kept was = absurd says
   spent bad (Breaks q) is says last same kept was = absurd says
 
-  broken : (b : _) (t : Turn) → turn_on set r heard ≡ t → Says (nexts.Failed (failures.Breach b)) e.set heard t → e.set ≡ set
+  broken : (b : _) (t : ReaderTurn) → turn_on set r heard ≡ t → Says (nexts.Failed (failures.Breach b)) e.set heard t → e.set ≡ set
       → e.since ≡ kept_after old r t (exchange_of set r heard) → BrokenOver heard (record { set = set; reader = r }) e
   broken b (Breaks q) is says same kept = record { reader = q; turn = is; set_is = same; last = record { before = old; kept_is = kept } }
   broken b (Asks q) is says same kept = absurd says
   broken b (Gives response q) is says same kept = absurd says
   broken b (Spends q) is says same kept = absurd says
 
-  no_device : (t : Turn) → Says (nexts.Failed failures.Device) e.set heard t → ⊥
+  no_device : (t : ReaderTurn) → Says (nexts.Failed failures.Device) e.set heard t → ⊥
   no_device (Asks q) says = says
   no_device (Gives response q) says = says
   no_device (Spends q) says = says
   no_device (Breaks q) says = says
 
   -- A link that failed shows it.
-  pub fails_so : (f : LinkEnd) (n : ℕ) (t : Turn) → turn_on set r heard ≡ t → Says (nexts.Failed f) e.set heard t → KeepsLast e heard t → e.set ≡ set
+  pub fails_so : (f : LinkEnd) (n : ℕ) (t : ReaderTurn) → turn_on set r heard ≡ t → Says (nexts.Failed f) e.set heard t → KeepsLast e heard t → e.set ≡ set
       → e.since ≡ kept_after old r t (exchange_of set r heard)
       → is_spent (nexts.Failed f) ≡ (is_bad (heard_block set.kind set.frames.reader heard) && nat_le 2 n)
       → FailsOver (end_of_failure f) heard (record { set = set; reader = r }) e
   fails_so (failures.Spent bad) n t is says last same kept was = spent bad t is says last same kept (both (is_bad (heard_block set.kind set.frames.reader heard)) (nat_le 2 n) was)
   fails_so (failures.Breach b) n t is says last same kept was = broken b t is says same kept
   fails_so failures.Device n t is says last same kept was = absurd (no_device t says)
-
--- No failed link is an end without a card.
-pub carded : (f : LinkEnd) → IsCarded (end_of_failure f)
-carded (failures.Spent bad) = tt
-carded (failures.Breach b) = tt
-carded failures.Device = tt
 
 -- ---- after an exchange
 
@@ -191,22 +191,22 @@ one_more_fits o old new e left is room none before found =
 -- ---- an outcome
 
 -- An outcome is noted, and its message.
-pub outcome_noted : (before old new : List Said) (v : Verdict) → new ≡ old ++ outcome_said v → HasOutcome (before ++ new)
+pub outcome_noted : (before old new : List EventData) (v : Verdict) → new ≡ old ++ outcome_said v → HasOutcome (before ++ new)
 outcome_noted before old new v is = record {
   before = before ++ old;
   kind = v.kind;
   after = message_said v.message;
-  said_is = ap (λ (es : List Said). before ++ es) is ∙ sym (append_assoc before old (outcome_said v));
+  said_is = ap (λ (es : List EventData). before ++ es) is ∙ sym (append_assoc before old (outcome_said v));
 }
 
 -- An outcome is noted, and then another event.
-pub outcome_before : (before old middle new : List Said) (kind : OutcomeKind) (what : Said) → middle ≡ old ++ Tells (Outcome kind) ∷ [] → new ≡ middle ++ what ∷ []
+pub outcome_before : (before old middle new : List EventData) (kind : OutcomeKind) (what : EventData) → middle ≡ old ++ Tells (Outcome kind) ∷ [] → new ≡ middle ++ what ∷ []
     → HasOutcome (before ++ new)
 outcome_before before old middle new kind what first second = record {
   before = before ++ old;
   kind = kind;
   after = what ∷ [];
-  said_is = ap (λ (es : List Said). before ++ es)
-      (second ∙ ap (λ (es : List Said). es ++ what ∷ []) first ∙ append_assoc old (Tells (Outcome kind) ∷ []) (what ∷ []))
+  said_is = ap (λ (es : List EventData). before ++ es)
+      (second ∙ ap (λ (es : List EventData). es ++ what ∷ []) first ∙ append_assoc old (Tells (Outcome kind) ∷ []) (what ∷ []))
       ∙ sym (append_assoc before old (Tells (Outcome kind) ∷ what ∷ []));
 }

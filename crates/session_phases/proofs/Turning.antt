@@ -4,7 +4,7 @@ use Rattle.ep_base.specs.declared.outcome.Message.TheVariants.{OneCardOnly}
 use Rattle.ep_base.specs.Cards.Apdu.{select, ppse_name}
 use Rattle.ep_base.specs.Objects.Arena.{Object}
 use Rattle.ep_rules.specs.EntryPoint.Candidates.{candidates}
-use Rattle.ep_base.specs.Link.Dialogue.{opened}
+use Rattle.ep_base.specs.Link.Dialogue.{opened_reader}
 use Rattle.ep_base.specs.Objects.Directory.{directory}
 use Rattle.ep_base.specs.declared.air.CardKind.{CardKind}
 use Rattle.ep_base.specs.Air.FrameSize.{frame_size}
@@ -13,33 +13,51 @@ use Rattle.ep_base.specs.Air.Heard.{Activated, Ask, Heard, RoundEnd}
 use Rattle.ep_base.specs.Air.Heard as rounds
 use Rattle.ep_rules.specs.EntryPoint.Kernel.{KernelSteps}
 use Rattle.ep_base.specs.Link.LinkFrames.{LinkSetting}
-use Rattle.ep_rules.specs.EntryPoint.PreProcessing.{Ready}
+use Rattle.ep_rules.specs.EntryPoint.PreProcessing.{PreparedOne}
 use Rattle.ep_base.specs.Poll.Radio.{OpenLink, setting_of, link_to}
-use Rattle.ep_base.specs.Link.ReaderEnd.{Reader, Turn, Asks, Gives, Spends, Breaks, asked, begin}
+use Rattle.ep_base.specs.Link.ReaderEnd.{Reader, ReaderTurn, Asks, Gives, Spends, Breaks, asked, begin}
 use Rattle.ep_base.specs.Poll.Round.{Stage, Waking, round_asks, round_hears}
-use Rattle.ep_rules.specs.EntryPoint.Event.{Said, Ending, End, EndLink, EndBreach, Finished, NoCard, Candidates}
-use Rattle.ep_rules.specs.EntryPoint.Talk.{Talk, Result, Response, Round, Closed, Over, Say, Poll, Command, Close, Wish, Polls, Commands, Closes, Nothing, so_far, by_end}
+use Rattle.ep_rules.specs.EntryPoint.Event.{Activation, Event as EventData, Ending, End, EndLink, EndBreach, Finished, NoCard, Candidates}
+use Rattle.ep_rules.specs.EntryPoint.Talk.{Talk, Result, Response, Closed, Over, Say, Command, Close, Wish, Polls, Commands, Closes, Nothing, so_far}
 use Rattle.ep_rules.specs.EntryPoint.Talk as talks
 use Rattle.ep_rules.specs.EntryPoint.TransportRun.{HearEnd, Whole, AtLink, AtBreach, said_for}
 use Rattle.block_reader.specs.Stands.{Held, Asking, Rests, StandsAt, Says}
+use Rattle.block_reader.specs.declared.reader_end.ReaderEnd.{ReaderEnd}
 use Rattle.block_reader.specs.declared.ends.Next.TheVariants as nexts
 use Rattle.block_reader.specs.declared.ends.LinkEnd.{LinkEnd}
 use Rattle.block_reader.specs.declared.ends.LinkEnd.TheVariants as failures
 use Rattle.ep_claim.specs.Lanes.Standing.{Doing, Rounds, Carries, Closing, Stopped, Standing, begins, doing_by, standing, asks_block, asked_by, after_stage, after_turn, hears_by, after_hearing, ending_of, events_by, events_of}
 use Rattle.poll_activate.specs.Poll.{PollState}
 use Rattle.poll_activate.specs.Poll as polling
-use Rattle.session_event.specs.Event.{said_of_end}
-use Rattle.session_event.specs.declared.event.End as ends_declared
-use Rattle.session_event.specs.declared.event.End.TheVariants as ending
-use Rattle.session_phases.specs.Ends.{end_of_failure}
-use Rattle.session_event.specs.declared.event.Event.{Event}
+use Rattle.kernel_port.specs.Event.{said_of_end}
+use Rattle.kernel_port.specs.declared.event.End as ends_declared
+use Rattle.kernel_port.specs.declared.event.End.TheVariants as ending
+use Rattle.kernel_port.specs.declared.event.Event.{Event}
 use Rattle.session_phases.specs.Causes.{EndDecided, HasOutcome}
 use Rattle.session_phases.specs.Told.{Comes, after_events, told_by}
 use Rattle.session_phases.specs.Rounds.{polls, presents}
-use Rattle.session_phases.specs.Stands.{AtCommand, AtClose, Does, Rolls, EndsSo, RoundTurned, RoundStands, WishStands, Turned}
+use Rattle.select_rules.specs.declared.pair.Pair.{Pair}
+use Rattle.session_phases.specs.declared.steps.Purpose as code_purpose
+use Rattle.session_phases.specs.declared.steps.Purpose.TheVariants as purposes
+use Rattle.session_phases.specs.declared.steps.Selection.{Selection}
+use Rattle.session_phases.specs.Plain.{purpose_of}
+use Rattle.session_phases.specs.Stands.{carries, held_if, AtCommand, AtClose, Does, Rolls, EndsSo, RoundTurned, RoundStands, WishStands, Turned}
 use Rattle.session_phases.specs.Wishes.{Before, Looks, Serves, Wished, next_start, wished}
 use Rattle.session_phases.specs.Plain as plain
 use Rattle.session_phases.proofs.Coming.{now, hears_close, same_rest}
+use Rattle.session_phases.proofs.Failing.{end_of_failure}
+
+-- What a purpose holds is what is given and the candidates after that.
+pub same_purpose : (p : code_purpose.Purpose) (e f : Selection) → e.given ≡ f.given → e.rest ≡ f.rest → purpose_of p e ≡ purpose_of p f
+same_purpose purposes.Directory e f given rest = refl
+same_purpose purposes.Final e f given rest =
+    ap (λ (g : Activation). let p : plain.Purpose = plain.Final g e.rest in p) given ∙ ap (λ (r : List Pair). let p : plain.Purpose = plain.Final f.given r in p) rest
+same_purpose purposes.Kernel e f given rest = ap (λ (r : List Pair). let p : plain.Purpose = plain.Kernel r in p) rest
+
+-- Where a command is carried, the last link was opened.
+pub was_opened : (b : Bool) (e : ReaderEnd) (command : List ℕ) (purpose : plain.Purpose) → carries (held_if b e) (plain.Command command purpose) ≡ true → b ≡ true
+was_opened false e command purpose h = absurd (let g : ⊥ = cc in g)
+was_opened true e command purpose h = refl
 
 -- A command is begun over a link.
 pub begun_command : (e0 e1 : Held) (command : List ℕ) (reader : Reader) → e1.set ≡ e0.set → Asking e1 (begin e0.set.frames.card command reader)
@@ -57,7 +75,7 @@ begun_close e0 e1 reader same = record {
   does = ap (λ (set : LinkSetting). Closing (record { set = set; reader = reader })) (sym same);
 }
 
-module _ (talk : Talk) (results : List Result) (said : List Said) (link : Option OpenLink) where
+module _ (talk : Talk) (results : List Result) (said : List EventData) (link : Option OpenLink) where
   -- What is of a talk that goes on with this wish.
   pub doing_now : (rest : Talk) (w : Wish) → (so_far rest []).wish ≡ w → Comes talk results said rest → doing_by w link ≡ (standing talk results link).doing
   doing_now rest w is comes = ap (λ (w : Wish). doing_by w link) (sym (ap (λ (s : talks.SoFar). s.wish) (now talk results said rest comes) ∙ is))
@@ -78,18 +96,18 @@ over_events : (talk : Talk) (st : Standing) (e : HearEnd) → st.doing ≡ Stopp
 over_events talk st e is = ap (λ (d : Doing). events_by talk st.results (ending_of d)) is
 
 -- The talk is over, and its end is noted.
-pub over_so : (talk : Talk) (results : List Result) (before old new : List Said) (link : Option OpenLink) (e : Ending) (end : ends_declared.End)
+pub over_so : (talk : Talk) (results : List Result) (before old new : List EventData) (link : Option OpenLink) (e : Ending) (end : ends_declared.End)
     → said_of_end end ≡ End e → EndDecided end (before ++ old) → new ≡ old ++ said_of_end end ∷ [] → Comes talk results (before ++ old) (Over e)
     → EndsSo end talk (standing talk results link) (before ++ new)
 over_so talk results before old new link e end is decided told comes =
     let so : so_far talk results ≡ after_events (before ++ old) (so_far (Over e) []) = now talk results (before ++ old) (Over e) comes in
     let stopped : (standing talk results link).doing ≡ Stopped Whole = sym (doing_now talk results (before ++ old) link (Over e) Nothing refl comes) in
-    let all : before ++ new ≡ (before ++ old) ++ said_of_end end ∷ [] = ap (λ (es : List Said). before ++ es) told ∙ sym (append_assoc before old (said_of_end end ∷ [])) in
+    let all : before ++ new ≡ (before ++ old) ++ said_of_end end ∷ [] = ap (λ (es : List EventData). before ++ es) told ∙ sym (append_assoc before old (said_of_end end ∷ [])) in
     record {
       ending = Whole;
       stopped = stopped;
       said_is = over_events talk (standing talk results link) Whole stopped ∙ append-nil (so_far talk results).events ∙ ap (λ (s : talks.SoFar). s.events) so
-          ∙ ap (λ (x : Said). (before ++ old) ++ x ∷ []) (sym is) ∙ sym all;
+          ∙ ap (λ (x : EventData). (before ++ old) ++ x ∷ []) (sym is) ∙ sym all;
       before = before ++ old;
       last = all;
       decided = decided;
@@ -112,16 +130,16 @@ pub one_more : (left fewer : ℕ) (collided : Bool) (next : Activated → Talk) 
 one_more left fewer collided next is = subst (λ (n : ℕ). talks.rounds OneCardOnly n collided next ≡ polls fewer collided next) (sym is) (some_more fewer collided next)
 
 -- A card was found.
-pub finds : (talk : Talk) (results : List Result) (said : List Said) (fsdi : ℕ) (card : Activated) (e0 e1 : Held) (command : List ℕ) (ask : Ask) (next : List ℕ → Talk)
+pub finds : (talk : Talk) (results : List Result) (said : List EventData) (fsdi : ℕ) (card : Activated) (e0 e1 : Held) (command : List ℕ) (ask : Ask) (next : List ℕ → Talk)
     → command ≡ select ppse_name → e0.set ≡ setting_of fsdi card
-    → Does (Some e1) (plain.Command command plain.Directory) (doing_by (Commands command) (Some (record { set = e0.set; reader = opened })))
-    → asked_by fsdi (doing_by (Commands command) (Some (record { set = e0.set; reader = opened }))) ≡ Some ask
+    → Does (Some e1) (plain.Command command plain.Directory) (doing_by (Commands command) (Some (record { set = e0.set; reader = opened_reader })))
+    → asked_by fsdi (doing_by (Commands command) (Some (record { set = e0.set; reader = opened_reader }))) ≡ Some ask
     → Comes talk results said (Command (select ppse_name) next)
     → RoundTurned fsdi (Some e1) (plain.Ask ask (plain.Waiting (plain.Command command plain.Directory))) talk (standing talk results (Some (link_to fsdi card))) said next
 finds talk results said fsdi card e0 e1 command ask next is set does asks comes =
-    let same : doing_by (Commands command) (Some (record { set = e0.set; reader = opened })) ≡ (standing talk results (Some (link_to fsdi card))).doing =
-    ap (λ (c : List ℕ). doing_by (Commands c) (Some (record { set = e0.set; reader = opened }))) is
-    ∙ ap (λ (set : LinkSetting). doing_by (Commands (select ppse_name)) (Some (record { set = set; reader = opened }))) set
+    let same : doing_by (Commands command) (Some (record { set = e0.set; reader = opened_reader })) ≡ (standing talk results (Some (link_to fsdi card))).doing =
+    ap (λ (c : List ℕ). doing_by (Commands c) (Some (record { set = e0.set; reader = opened_reader }))) is
+    ∙ ap (λ (set : LinkSetting). doing_by (Commands (select ppse_name)) (Some (record { set = set; reader = opened_reader }))) set
     ∙ doing_now talk results said (Some (link_to fsdi card)) (Command (select ppse_name) next) (Commands (select ppse_name)) refl comes in (
       record {
         does = subst (λ (d : Doing). AtCommand e1 d) same does;
@@ -131,7 +149,7 @@ finds talk results said fsdi card e0 e1 command ask next is set does asks comes 
       ap (λ (d : Doing). asked_by fsdi d) (sym same) ∙ asks,
     )
 
-module _ {S : Type 0} (k : KernelSteps S) (ones : List Ready) (s : S) where
+module _ {S : Type 0} (k : KernelSteps S) (ones : List PreparedOne) (s : S) where
   -- What follows SELECT PPSE.
   abbrev pub after_ppse : ℕ → List ℕ → Talk
   after_ppse n r = Say (Candidates (length (candidates ones (directory r)))) (selects k (next_start k ones n) (candidates ones (directory r)) s)
@@ -142,7 +160,7 @@ module _ {S : Type 0} (k : KernelSteps S) (ones : List Ready) (s : S) where
   starting zero = refl
   starting (suc n) = refl
 
-  pub rolled : (objects : List Object) (fsdi : ℕ) (link : Option Held) (o : plain.Onward) (talk : Talk) (st : Standing) (said : List Said) (n : ℕ)
+  pub rolled : (objects : List Object) (fsdi : ℕ) (link : Option Held) (o : plain.Onward) (talk : Talk) (st : Standing) (said : List EventData) (n : ℕ)
       → k.restarts s ≤ n → RoundTurned fsdi link o talk st said (after_ppse n) → Turned k ones s objects fsdi link o talk st said
   rolled objects fsdi link (plain.Ask ask (plain.Polling round)) talk st said n le h = (
     record {
@@ -162,11 +180,11 @@ module _ {S : Type 0} (k : KernelSteps S) (ones : List Ready) (s : S) where
   )
   rolled objects fsdi link (plain.Ended end) talk st said n le h = h
 
-  module _ (objects : List Object) (talk : Talk) (results : List Result) (said : List Said) where
+  module _ (objects : List Object) (talk : Talk) (results : List Result) (said : List EventData) where
     waits_for : (rest : Talk) (w : Wish) → so_far rest [] ≡ talks.waits w → Comes talk results said rest → so_far talk results ≡ record { events = said; wish = w }
     waits_for rest w is comes =
         now talk results said rest comes ∙ ap (λ (s : talks.SoFar). after_events said s) is
-        ∙ ap (λ (es : List Said). let t : talks.SoFar = record { events = es; wish = w } in t) (append-nil said)
+        ∙ ap (λ (es : List EventData). let t : talks.SoFar = record { events = es; wish = w } in t) (append-nil said)
 
     -- What is said and wished now.
     pub wished_now : (w : plain.Wish) → Wished k ones s objects talk results said w → so_far talk results ≡ record { events = said; wish = wished w }
@@ -180,7 +198,7 @@ module _ {S : Type 0} (k : KernelSteps S) (ones : List Ready) (s : S) where
     wished_now (plain.Close false) h = waits_for h.0.rest Closes (ap (λ (t : Talk). so_far t []) h.0.rest_is) h.0.comes
 
     -- A block of the command goes on.
-    pub asks_more : (turn : Turn) (e0 e1 : Held) (heard : Heard) (fsdi : ℕ) (command : List ℕ) (purpose : plain.Purpose) (ask : Ask)
+    pub asks_more : (turn : ReaderTurn) (e0 e1 : Held) (heard : Heard) (fsdi : ℕ) (command : List ℕ) (purpose : plain.Purpose) (ask : Ask)
         → Says (nexts.Ask ask) e1.set heard turn → StandsAt e1 turn → e1.set ≡ e0.set → Serves k ones s objects talk results said command purpose
         → Turned k ones s objects fsdi (Some e1) (plain.Ask ask (plain.Waiting (plain.Command command purpose))) talk (after_turn talk results e0.set turn) said
     asks_more (Asks r) e0 e1 heard fsdi command purpose ask says stands same served = (
@@ -195,7 +213,7 @@ module _ {S : Type 0} (k : KernelSteps S) (ones : List Ready) (s : S) where
     asks_more (Breaks r) e0 e1 heard fsdi command purpose ask says stands same served = absurd says
 
     -- The link has failed.
-    pub fails : (turn : Turn) (e0 e1 : Held) (heard : Heard) (failure : LinkEnd) (w : plain.Wish) (new : List Said)
+    pub fails : (turn : ReaderTurn) (e0 e1 : Held) (heard : Heard) (failure : LinkEnd) (w : plain.Wish) (new : List EventData)
         → Says (nexts.Failed failure) e1.set heard turn → Wished k ones s objects talk results said w → new ≡ said ++ said_of_end (end_of_failure failure) ∷ []
         → EndsSo (end_of_failure failure) talk (after_turn talk results e0.set turn) new
     fails (Spends r) e0 e1 heard (failures.Spent bad) w new says h told = record {
@@ -226,7 +244,7 @@ module _ {S : Type 0} (k : KernelSteps S) (ones : List Ready) (s : S) where
     fails (Breaks r) e0 e1 heard failures.Device w new says h told = absurd says
 
   -- The response has come, and what is wished after it is begun.
-  pub gives : (objects : List Object) (talk : Talk) (results : List Result) (said : List Said) (turn : Turn) (e0 e1 e2 : Held) (heard : Heard) (fsdi : ℕ) (response : List ℕ) (w : plain.Wish) (ask : Ask)
+  pub gives : (objects : List Object) (talk : Talk) (results : List Result) (said : List EventData) (turn : ReaderTurn) (e0 e1 e2 : Held) (heard : Heard) (fsdi : ℕ) (response : List ℕ) (w : plain.Wish) (ask : Ask)
       → Says (nexts.Done response) e1.set heard turn → StandsAt e1 turn → e1.set ≡ e0.set
       → Wished k ones s objects talk (results ++ Response response ∷ []) said w
       → ((reader : Reader) → Rests e1 reader → Does (Some e2) w (doing_by (wished w) (Some (record { set = e1.set; reader = reader }))))
@@ -256,7 +274,7 @@ set_is e fsdi card kind size reader fwi =
     ∙ ap (λ (x : ℕ). let s : LinkSetting = record { kind = card.kind; frames = record { card = card.fsc; reader = frame_size fsdi }; fwi = x } in s) fwi
 
 -- A round goes on with its next frame.
-pub rolls_on : (talk : Talk) (results : List Result) (said : List Said) (t : rounds.Turn Stage) (fsdi left : ℕ) (collided : Bool) (next : List ℕ → Talk) (p : PollState) (ask : Ask)
+pub rolls_on : (talk : Talk) (results : List Result) (said : List EventData) (t : rounds.RoundTurn Stage) (fsdi left : ℕ) (collided : Bool) (next : List ℕ → Talk) (p : PollState) (ask : Ask)
     → None ≡ rounds.end_of t → p.stage ≡ rounds.place_of t → p.fsdi ≡ fsdi → ask ≡ polling.asked p → Comes talk results said (polls left collided (presents next))
     → Rolls fsdi p left collided talk (after_stage fsdi talk results t) said next × (asked_by fsdi (after_stage fsdi talk results t).doing ≡ Some ask)
 rolls_on talk results said (rounds.Goes stage) fsdi left collided next p ask none at code is comes =
@@ -267,7 +285,7 @@ rolls_on talk results said (rounds.Goes stage) fsdi left collided next p ask non
 rolls_on talk results said (rounds.Ends e) fsdi left collided next p ask none at code is comes = absurd (let g : ⊥ = cc in g)
 
 -- A round has ended so.
-pub ends_with : (t : rounds.Turn Stage) (e : RoundEnd) → Some e ≡ rounds.end_of t → t ≡ rounds.Ends e
+pub ends_with : (t : rounds.RoundTurn Stage) (e : RoundEnd) → Some e ≡ rounds.end_of t → t ≡ rounds.Ends e
 ends_with (rounds.Goes stage) e is = absurd (let g : ⊥ = cc in g)
 ends_with (rounds.Ends f) e is = cc
 
@@ -276,7 +294,7 @@ pub none_told : (es : List Event) → length es ≡ 0 → told_by es ≡ []
 none_told [] is = refl
 none_told (e ∷ es) is = absurd (let g : ⊥ = cc in g)
 
-module _ {S : Type 0} (k : KernelSteps S) (ones : List Ready) (s : S) where
+module _ {S : Type 0} (k : KernelSteps S) (ones : List PreparedOne) (s : S) where
   -- The link that is closed.
   pub closes_at : (link : Option Held) (again : Bool) (d : Doing) → Does link (plain.Close again) d → (l : OpenLink) × (d ≡ Closing l)
   closes_at None again d h = absurd h
@@ -288,7 +306,7 @@ module _ {S : Type 0} (k : KernelSteps S) (ones : List Ready) (s : S) where
 
   module _ (before after : List Object) (fsdi : ℕ) (old new : Option Held) (o : plain.Onward) (talk : Talk) (st : Standing) (heard : Heard) where
     -- A new Start B follows.
-    pub starts_again : (said : List Said) → WishStands k ones s before old (plain.Close true) talk st said
+    pub starts_again : (said : List EventData) → WishStands k ones s before old (plain.Close true) talk st said
         → ((next : List ℕ → Talk) → Comes talk (st.results ++ Closed ∷ []) said (polls 63 false (presents next))
         → RoundTurned fsdi new o talk (standing talk (st.results ++ Closed ∷ []) None) said next)
         → Turned k ones s after fsdi new o talk (after_hearing fsdi talk heard st) said
@@ -304,7 +322,7 @@ module _ {S : Type 0} (k : KernelSteps S) (ones : List Ready) (s : S) where
             (turned (after_ppse k ones s n) (same_rest talk (st.results ++ Closed ∷ []) said (starts k ones n s) (polls 63 false (presented k (next_start k ones n) ones s)) (starting k ones s n) closed))
 
     -- The end follows.
-    pub ends_here : (said told : List Said) → WishStands k ones s before old (plain.Close false) talk st said → o ≡ plain.Ended ending.Done
+    pub ends_here : (said told : List EventData) → WishStands k ones s before old (plain.Close false) talk st said → o ≡ plain.Ended ending.Done
         → (HasOutcome said → Comes talk (st.results ++ Closed ∷ []) said (Over Finished) → EndsSo ending.Done talk (standing talk (st.results ++ Closed ∷ []) None) told)
         → Turned k ones s after fsdi new o talk (after_hearing fsdi talk heard st) told
     ends_here said told h word ended =
@@ -314,7 +332,7 @@ module _ {S : Type 0} (k : KernelSteps S) (ones : List Ready) (s : S) where
         (ended h.goes.1 (hears_close talk st.results said (Over Finished) (same_rest talk st.results said h.goes.0.rest ends h.goes.0.rest_is h.goes.0.comes))))
 
     -- A round goes on or ends.
-    pub rounds_on : (said told : List Said) (poll : PollState) (left : ℕ) (collided : Bool) → RoundStands k ones s fsdi poll left collided talk st said
+    pub rounds_on : (said told : List EventData) (poll : PollState) (left : ℕ) (collided : Bool) → RoundStands k ones s fsdi poll left collided talk st said
         → ((next : List ℕ → Talk) (stage : Stage) → poll.stage ≡ Some stage → poll.fsdi ≡ fsdi → Comes talk st.results said (polls left collided (presents next))
         → RoundTurned fsdi new o talk (after_stage fsdi talk st.results (round_hears stage heard)) told next)
         → Turned k ones s after fsdi new o talk (after_hearing fsdi talk heard st) told

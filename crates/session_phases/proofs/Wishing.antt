@@ -10,18 +10,17 @@ use Rattle.ep_base.specs.Objects.Arena.{Object}
 use Rattle.ep_rules.specs.EntryPoint.Candidates.{Candidate, candidates, final_command}
 use Rattle.ep_base.specs.Objects.Directory.{Entry, directory, entries_held}
 use Rattle.ep_rules.specs.EntryPoint.Kernel.{KernelSteps, KernelStep, Send, Done}
-use Rattle.ep_rules.specs.EntryPoint.PreProcessing.{Ready}
-use Rattle.ep_rules.specs.EntryPoint.Event.{Said, Activation, Verdict, Tells, Apdu, Notice, Outcome, Candidates, Activate}
+use Rattle.ep_rules.specs.EntryPoint.PreProcessing.{PreparedOne}
+use Rattle.ep_rules.specs.EntryPoint.Event.{Event as EventData, Activation, Verdict, Tells, Apdu, Notice, Outcome, Candidates, Activate}
 use Rattle.ep_rules.specs.EntryPoint.Talk.{Talk, Result, Response, Say, Command, Close}
 use Rattle.ep_rules.specs.EntryPoint.Transaction.{ends, selects, activates, after_verdict, after_kind, after_move, kernel_runs, given_to}
-use Rattle.kernel_port.specs.Kernels.{CountsFall, RestartsFall}
+use Rattle.ep_rules.specs.EntryPoint.KernelCounts.{CountsFall, RestartsFall}
 use Rattle.select_rules.specs.Left.{StandsFor}
 use Rattle.select_rules.specs.declared.pair.Pair.{Pair}
 use Rattle.session_phases.specs.Offers.{offered}
 use Rattle.session_phases.specs.Told.{Comes, outcome_said}
 use Rattle.session_phases.specs.Wishes.{Lasts, RestartsLeft, next_start, Within, Before, Selects, Decides, Activates, Moves, Hears, Chosen, Offers, Sends, Lists, Looks, Wished}
 use Rattle.session_phases.specs.Plain as plain
-use Rattle.session_phases.specs.Plain.{Wish}
 use Rattle.session_phases.specs.Causes.{HasOutcome}
 use Rattle.session_phases.proofs.Failing.{outcome_before}
 use Rattle.session_phases.proofs.Coming.{notes, notes_response, notes_outcome, same_rest}
@@ -38,11 +37,11 @@ pub none_left : (left : List Candidate) → None ≡ option_map offered (slice_g
 none_left [] h = refl
 none_left (x ∷ more) h = absurd (let g : ⊥ = cc in g)
 
-module _ {S : Type 0} (k : KernelSteps S) (ones : List Ready) (objects : List Object) (talk : Talk) (results : List Result) (before old : List Said) (s : S) where
+module _ {S : Type 0} (k : KernelSteps S) (ones : List PreparedOne) (objects : List Object) (talk : Talk) (results : List Result) (before old : List EventData) (s : S) where
   -- The first candidate that is left is offered.
   pub offers : (pairs others : List Pair) (command : List ℕ) (given : Activation)
       → ((count : ℕ) (left : List Candidate) → StandsFor ones (entries_held count objects) pairs left → Some (command, given) ≡ option_map offered (slice_get left 0))
-      → ((all : List Ready) (entries : List Entry) (left : List Candidate) → StandsFor all entries pairs left → StandsFor all entries others (drop 1 left))
+      → ((all : List PreparedOne) (entries : List Entry) (left : List Candidate) → StandsFor all entries pairs left → StandsFor all entries others (drop 1 left))
       → Within k ones objects pairs (λ n. k.restarts s ≤ n) (Selects k ones s) talk results (before ++ old)
       → Within k ones objects others (λ n. k.restarts s ≤ n) (Offers k ones s command given) talk results (before ++ old)
   offers pairs others command given offer rest h =
@@ -60,7 +59,7 @@ module _ {S : Type 0} (k : KernelSteps S) (ones : List Ready) (objects : List Ob
       }
 
   -- No candidate is left.
-  pub offers_none : (pairs : List Pair) (middle new : List Said)
+  pub offers_none : (pairs : List Pair) (middle new : List EventData)
       → ((count : ℕ) (left : List Candidate) → StandsFor ones (entries_held count objects) pairs left → None ≡ option_map offered (slice_get left 0))
       → middle ≡ old ++ Tells (Outcome kinds.EndApplication) ∷ [] → new ≡ middle ++ Tells (Notice TryAnotherCard) ∷ []
       → Within k ones objects pairs (λ n. k.restarts s ≤ n) (Selects k ones s) talk results (before ++ old)
@@ -80,7 +79,7 @@ module _ {S : Type 0} (k : KernelSteps S) (ones : List Ready) (objects : List Ob
       )
 
   -- An outcome is noted, and what follows its kind is the rest.
-  pub decided : (pairs : List Pair) (v : Verdict) (new : List Said) → new ≡ old ++ outcome_said v
+  pub decided : (pairs : List Pair) (v : Verdict) (new : List EventData) → new ≡ old ++ outcome_said v
       → Within k ones objects pairs (λ n. RestartsFall v.kind n (k.restarts s)) (Decides k ones s v) talk results (before ++ old)
       → Within k ones objects pairs (λ n. RestartsFall v.kind n (k.restarts s)) (λ again left t. t ≡ after_kind again (selects k again left) v.kind s) talk results (before ++ new)
   decided pairs v new e h = record {
@@ -148,9 +147,9 @@ restarts_left k (Done v) n s1 s2 le h = restarts_fall v.kind h.1
     restarts_fall kinds.TryAnother h = omega (arith, h)
     restarts_fall kinds.EndApplication h = omega (arith, h)
 
-module _ {S : Type 0} (k : KernelSteps S) (ones : List Ready) (objects : List Object) (talk : Talk) (results : List Result) (before old : List Said) (s : S) where
+module _ {S : Type 0} (k : KernelSteps S) (ones : List PreparedOne) (objects : List Object) (talk : Talk) (results : List Result) (before old : List EventData) (s : S) where
   -- A kernel is activated, and makes its first move.
-  pub activated : (pairs : List Pair) (g : Activation) (s1 s2 : S) (m : KernelStep) (new : List Said)
+  pub activated : (pairs : List Pair) (g : Activation) (s1 s2 : S) (m : KernelStep) (new : List EventData)
       → s1 ≡ k.begin s g → k.restarts s1 ≤ k.restarts s → k.step s1 None ≡ (m, s2) → CountsFall k m s1 s2 → new ≡ old ++ Tells (Activate g) ∷ []
       → Within k ones objects pairs (λ n. k.restarts s ≤ n) (Activates k ones s g) talk results (before ++ old)
       → Within k ones objects pairs (λ n. RestartsLeft m n (k.restarts s2)) (Moves k ones s2 m) talk results (before ++ new)
@@ -234,7 +233,7 @@ module _ {S : Type 0} (k : KernelSteps S) (ones : List Ready) (objects : List Ob
       }
 
   -- The directory was answered, and its candidates are counted.
-  pub listed : (pairs : List Pair) (answer : List ℕ) (count number : ℕ) (entries : List Entry) (new : List Said)
+  pub listed : (pairs : List Pair) (answer : List ℕ) (count number : ℕ) (entries : List Entry) (new : List EventData)
       → entries_held count objects ≡ entries → entries ≡ directory answer
       → StandsFor ones (entries_held count objects) pairs (candidates ones (entries_held count objects))
       → number ≡ length (candidates ones (entries_held count objects)) → new ≡ old ++ Tells (Candidates number) ∷ []
@@ -258,7 +257,7 @@ module _ {S : Type 0} (k : KernelSteps S) (ones : List Ready) (objects : List Ob
       }
 
   -- The response to a command is noted with it.
-  pub looked : (command answer : List ℕ) (new : List Said) → new ≡ old ++ Apdu command answer ∷ []
+  pub looked : (command answer : List ℕ) (new : List EventData) → new ≡ old ++ Apdu command answer ∷ []
       → Before k ones (λ n. k.restarts s ≤ n) (Looks k ones s command) talk results (before ++ old)
       → Before k ones (λ n. k.restarts s ≤ n) (Lists k ones s answer) talk (results ++ Response answer ∷ []) (before ++ new)
   looked command answer new e h =
@@ -273,7 +272,7 @@ module _ {S : Type 0} (k : KernelSteps S) (ones : List Ready) (objects : List Ob
             (same_rest talk results (before ++ old) h.rest (Command command next) (h.rest_is.1 ∙ ap (λ (c : List ℕ). Command c next) (sym h.rest_is.0)) h.comes);
       }
 
-  pub selected : (pairs : List Pair) (given : Activation) (command answer : List ℕ) (new : List Said) → new ≡ old ++ Apdu command answer ∷ []
+  pub selected : (pairs : List Pair) (given : Activation) (command answer : List ℕ) (new : List EventData) → new ≡ old ++ Apdu command answer ∷ []
       → Within k ones objects pairs (λ n. k.restarts s ≤ n) (Offers k ones s command given) talk results (before ++ old)
       → Within k ones objects pairs (λ n. k.restarts s ≤ n) (Chosen k ones s given answer) talk (results ++ Response answer ∷ []) (before ++ new)
   selected pairs given command answer new e h =
@@ -292,7 +291,7 @@ module _ {S : Type 0} (k : KernelSteps S) (ones : List Ready) (objects : List Ob
             (same_rest talk results (before ++ old) h.rest (Command command next) (h.rest_is.3 ∙ ap (λ (c : List ℕ). Command c next) (sym h.rest_is.1)) h.comes);
       }
 
-  pub heard : (pairs : List Pair) (command answer : List ℕ) (new : List Said) → new ≡ old ++ Apdu command answer ∷ []
+  pub heard : (pairs : List Pair) (command answer : List ℕ) (new : List EventData) → new ≡ old ++ Apdu command answer ∷ []
       → Within k ones objects pairs (λ n. k.restarts s ≤ n) (Sends k ones s command) talk results (before ++ old)
       → Within k ones objects pairs (λ n. k.restarts s ≤ n) (Hears k ones s answer) talk (results ++ Response answer ∷ []) (before ++ new)
   heard pairs command answer new e h =

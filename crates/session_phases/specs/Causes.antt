@@ -9,11 +9,11 @@ use Rattle.ep_base.specs.Link.LinkEvents.{exchange_of}
 use Rattle.ep_base.specs.Link.LinkFrames.{LinkSetting, Kept, heard_block}
 use Rattle.ep_base.specs.Poll.Radio.{OpenLink}
 use Rattle.ep_base.specs.Link.ReaderEnd.{Reader, Spends, Breaks}
-use Rattle.ep_rules.specs.EntryPoint.Event.{Said, Tells, Outcome}
+use Rattle.ep_rules.specs.EntryPoint.Event.{Event as EventData, Tells, Outcome}
 use Rattle.ep_claim.specs.Lanes.Standing.{Doing, Carries}
-use Rattle.session_event.specs.Event.{said_of_end}
-use Rattle.session_event.specs.declared.event.End.{End}
-use Rattle.session_event.specs.declared.event.End.TheVariants as ending
+use Rattle.kernel_port.specs.Event.{said_of_end}
+use Rattle.kernel_port.specs.declared.event.End.{End}
+use Rattle.kernel_port.specs.declared.event.End.TheVariants as ending
 
 -- No card was found in this round (this project's own).
 abbrev pub FindsNone : RoundEnd → Type 0
@@ -75,21 +75,21 @@ pub record FailedIn (end : End) (heard : Heard) (doing : Doing) (link : Option H
   pub fails : FailsOver end heard over e
 
 -- An outcome is among these events (after EMV Contactless Book B).
-pub record HasOutcome (said : List Said) : Type 0 where
-  pub before : List Said
+pub record HasOutcome (said : List EventData) : Type 0 where
+  pub before : List EventData
   pub kind : OutcomeKind
-  pub after : List Said
+  pub after : List EventData
   pub said_is : said ≡ before ++ Tells (Outcome kind) ∷ after
 
 -- Before the end of a transaction that was carried through, an outcome was said (after EMV Contactless Book B).
-abbrev pub EndDecided : End → List Said → Type 0
+abbrev pub EndDecided : End → List EventData → Type 0
 EndDecided ending.Done before = HasOutcome before
 EndDecided ending.Link before = Unit {0}
 EndDecided ending.NoCard before = Unit {0}
 EndDecided ending.Breach before = Unit {0}
 
 -- The last of these events is this end, and an outcome stands before it (after EMV Contactless Book B).
-pub record IsDecided (end : End) (said : List Said) : Type 0 where
-  pub before : List Said
+pub record IsDecided (end : End) (said : List EventData) : Type 0 where
+  pub before : List EventData
   pub last : said ≡ before ++ said_of_end end ∷ []
   pub outcome : HasOutcome before

@@ -1,5 +1,4 @@
 pub mod Causes
-pub mod Ends
 pub mod Offers
 pub mod Opening
 pub mod Plain

@@ -1,9 +1,9 @@
 -- What a transaction does between two exchanges, in plain data: a value of the code's, together with the fields that it speaks of.
 use Rattle.std.specs.Prelude.{ℕ, Bool, List}
-use Rattle.ep_base.specs.Air.Heard.{Ask as Asked}
+use Rattle.ep_base.specs.Air.Heard.{Ask as AskData}
 use Rattle.ep_rules.specs.EntryPoint.Event.{Activation}
 use Rattle.select_rules.specs.declared.pair.Pair.{Pair}
-use Rattle.session_event.specs.declared.event.End.{End}
+use Rattle.kernel_port.specs.declared.event.End.{End}
 use Rattle.session_phases.specs.declared.steps.Round.{Round}
 use Rattle.session_phases.specs.declared.steps.Selection.{Selection}
 use Rattle.session_phases.specs.declared.steps.Purpose as code_purpose
@@ -33,7 +33,7 @@ pub data Step : Type 0 where
 
 -- What follows an exchange.
 pub data Onward : Type 0 where
-  Ask : (ask : Asked) → (step : Step) → Onward
+  Ask : (ask : AskData) → (step : Step) → Onward
   Ended : (end : End) → Onward
 
 -- A purpose with what a selection holds for it (this project's own).
@@ -53,6 +53,6 @@ step_of code_phases.Polling r e = Polling r
 step_of (code_phases.Waiting wish) r e = Waiting (wish_of wish e)
 
 -- What follows, with what is asked, the round and the selection that are held for it (this project's own).
-abbrev pub onward_of : code_onward.Onward → Asked → Round → Selection → Onward
+abbrev pub onward_of : code_onward.Onward → AskData → Round → Selection → Onward
 onward_of (code_onwards.Goes phase) ask r e = Ask ask (step_of phase r e)
 onward_of (code_onwards.Ended end) ask r e = Ended end

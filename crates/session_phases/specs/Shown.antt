@@ -1,7 +1,7 @@
 -- What is shown of a transaction's last Start B and of its last link.
 use Rattle.std.specs.Prelude.{◌≡◌, ℕ, ◌+◌, Bool, true, false, All, List, [], ◌∷◌, ◌++◌, length, Option, Some, None, if◌then◌else◌}
 use Rattle.ep_base.specs.Link.Carry.{turn_on}
-use Rattle.ep_base.specs.Air.Heard.{Heard, RoundEnd, Empty, Collision, Unsupported, Broken, Found, Turn, Goes, Ends}
+use Rattle.ep_base.specs.Air.Heard.{Heard, RoundEnd, Empty, Collision, Unsupported, Broken, Found, RoundTurn, Goes, Ends}
 use Rattle.ep_base.specs.Link.LinkEvents.{kept_after, exchange_of}
 use Rattle.ep_base.specs.Link.LinkFrames.{Kept}
 use Rattle.ep_base.specs.Poll.Round.{Stage, round_hears}
@@ -9,8 +9,8 @@ use Rattle.ep_base.specs.Poll.Radio.{OpenLink}
 use Rattle.ep_rules.specs.EntryPoint.Talk.{Result, Round, Response, Closed}
 use Rattle.block_reader.specs.Stands.{Held}
 use Rattle.ep_claim.specs.Lanes.Standing.{Doing, Rounds, Carries, Closing, Stopped, Astray, Standing}
-use Rattle.session_event.specs.declared.event.End.{End}
-use Rattle.session_event.specs.declared.event.End.TheVariants as ending
+use Rattle.kernel_port.specs.declared.event.End.{End}
+use Rattle.kernel_port.specs.declared.event.End.TheVariants as ending
 use Rattle.session_phases.specs.Causes.{FindsNone, IsNoCard, FailsOver, FailedIn}
 use Rattle.session_phases.specs.Plain as plain
 use Rattle.session_phases.specs.Plain.{Step, Onward}
@@ -153,7 +153,7 @@ FailedThen (plain.Ask ask step) heard doing link = Unit {0}
 FailedThen (plain.Ended end) heard doing link = EndFailed end heard doing link
 
 -- The ends after one more turn of a round (this project's own).
-abbrev pub ends_after : Turn Stage → List RoundEnd → List RoundEnd
+abbrev pub ends_after : RoundTurn Stage → List RoundEnd → List RoundEnd
 ends_after (Goes stage) ends = ends
 ends_after (Ends e) ends = ends ++ e ∷ []
 
@@ -171,7 +171,7 @@ kept_found Broken ks = ks
 kept_found (Found card) ks = []
 
 -- After a turn of a round (this project's own).
-abbrev pub kept_turned : Turn Stage → List Kept → List Kept
+abbrev pub kept_turned : RoundTurn Stage → List Kept → List Kept
 kept_turned (Goes stage) ks = ks
 kept_turned (Ends e) ks = kept_found e ks
 

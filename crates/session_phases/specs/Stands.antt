@@ -3,9 +3,9 @@ use Rattle.std.specs.Prelude.{◌≡◌, ℕ, ◌≤◌, Bool, true, false, ◌&
 use Rattle.ep_base.specs.Cards.Apdu.{select, ppse_name}
 use Rattle.ep_base.specs.Objects.Arena.{Object}
 use Rattle.ep_rules.specs.EntryPoint.Kernel.{KernelSteps}
-use Rattle.ep_rules.specs.EntryPoint.PreProcessing.{Ready}
+use Rattle.ep_rules.specs.EntryPoint.PreProcessing.{PreparedOne}
 use Rattle.ep_base.specs.Link.ReaderEnd.{Reader}
-use Rattle.ep_rules.specs.EntryPoint.Event.{Said}
+use Rattle.ep_rules.specs.EntryPoint.Event.{Event as EventData}
 use Rattle.ep_rules.specs.EntryPoint.Talk.{Talk, Command}
 use Rattle.ep_rules.specs.EntryPoint.Transaction.{presented}
 use Rattle.ep_rules.specs.EntryPoint.TransportRun.{HearEnd}
@@ -14,8 +14,9 @@ use Rattle.block_reader.specs.Stands as links
 use Rattle.block_reader.specs.declared.reader_end.ReaderEnd.{ReaderEnd}
 use Rattle.ep_claim.specs.Lanes.Standing.{Doing, Rounds, Carries, Closing, Stopped, Standing, asked_by, events_of}
 use Rattle.poll_activate.specs.Poll.{PollState}
-use Rattle.session_event.specs.Event.{said_of_end}
-use Rattle.session_event.specs.declared.event.End.{End}
+use Rattle.kernel_port.specs.Event.{said_of_end}
+use Rattle.kernel_port.specs.declared.event.End.{End}
+use Rattle.session_phases.specs.declared.steps.LastLink.{LastLink}
 use Rattle.session_phases.specs.Causes.{EndDecided}
 use Rattle.session_phases.specs.Told.{Comes}
 use Rattle.session_phases.specs.Rounds.{polls, presents}
@@ -23,10 +24,14 @@ use Rattle.session_phases.specs.Wishes.{Before, Wished, serves_wish}
 use Rattle.session_phases.specs.Plain as plain
 use Rattle.session_phases.specs.Plain.{Wish, Step, Onward}
 
--- The reader's end of the last link, in plain data (this project's own).
-abbrev pub link_held : Option ReaderEnd → Option Held
-link_held None = None
-link_held (Some e) = Some (held e)
+-- The reader's end of a link that was opened, in plain data (this project's own).
+abbrev pub held_if : Bool → ReaderEnd → Option Held
+held_if false e = None
+held_if true e = Some (held e)
+
+-- That of the last link, if there is one (this project's own).
+abbrev pub link_held : LastLink → Option Held
+link_held l = held_if l.was_opened l.end
 
 -- Whether a command is open over the last link (this project's own).
 abbrev pub is_asking : Option Held → Bool
@@ -76,56 +81,56 @@ Does (Some e) wish doing = DoesOver e wish doing
 
 -- The transaction is over with these events, and its end's word is the last of them; where it was carried through, an outcome stands before that
 -- (this project's own).
-pub record EndsSo (end : End) (talk : Talk) (st : Standing) (said : List Said) : Type 0 where
+pub record EndsSo (end : End) (talk : Talk) (st : Standing) (said : List EventData) : Type 0 where
   pub ending : HearEnd
   pub stopped : st.doing ≡ Stopped ending
   pub said_is : events_of talk st ≡ said
-  pub before : List Said
+  pub before : List EventData
   pub last : said ≡ before ++ said_of_end end ∷ []
   pub decided : EndDecided end before
 
 -- A round is made, and after it the rest of this Start B (this project's own).
-pub record Rolls (fsdi : ℕ) (poll : PollState) (left : ℕ) (collided : Bool) (talk : Talk) (st : Standing) (said : List Said) (next : List ℕ → Talk) : Type 0 where
+pub record Rolls (fsdi : ℕ) (poll : PollState) (left : ℕ) (collided : Bool) (talk : Talk) (st : Standing) (said : List EventData) (next : List ℕ → Talk) : Type 0 where
   pub round : AtRound fsdi poll st.doing
   pub comes : Comes talk st.results said (polls left collided (presents next))
 
 -- A card was found, and its directory is looked up (this project's own).
-pub record Finds (link : Option Held) (wish : Wish) (talk : Talk) (st : Standing) (said : List Said) (next : List ℕ → Talk) : Type 0 where
+pub record Finds (link : Option Held) (wish : Wish) (talk : Talk) (st : Standing) (said : List EventData) (next : List ℕ → Talk) : Type 0 where
   pub does : Does link wish st.doing
   pub first : wish ≡ plain.Command (select ppse_name) plain.Directory
   pub comes : Comes talk st.results said (Command (select ppse_name) next)
 
 -- What a step of a Start B stands for (this project's own).
-abbrev pub StepRolls : ℕ → Option Held → Step → Talk → Standing → List Said → (List ℕ → Talk) → Type 0
+abbrev pub StepRolls : ℕ → Option Held → Step → Talk → Standing → List EventData → (List ℕ → Talk) → Type 0
 StepRolls fsdi link (plain.Polling round) talk st said next = Rolls fsdi round.poll round.left round.collided talk st said next
 StepRolls fsdi link (plain.Waiting wish) talk st said next = Finds link wish talk st said next
 
 -- What follows an exchange of a Start B stands for this standing and these events (this project's own).
-abbrev pub RoundTurned : ℕ → Option Held → Onward → Talk → Standing → List Said → (List ℕ → Talk) → Type 0
+abbrev pub RoundTurned : ℕ → Option Held → Onward → Talk → Standing → List EventData → (List ℕ → Talk) → Type 0
 RoundTurned fsdi link (plain.Ask ask step) talk st said next = StepRolls fsdi link step talk st said next × (asked_by fsdi st.doing ≡ Some ask)
 RoundTurned fsdi link (plain.Ended end) talk st said next = EndsSo end talk st said
 
-module _ {S : Type 0} (k : KernelSteps S) (ones : List Ready) (s : S) where
+module _ {S : Type 0} (k : KernelSteps S) (ones : List PreparedOne) (s : S) where
   -- A round of a Start B is made (after EMV Contactless Book B).
   abbrev pub InRound : ℕ → Bool → (S → Talk) → Talk → Type 0
   InRound left collided again t = t ≡ polls left collided (presented k again ones s)
 
   -- A round stands for this standing and these events (this project's own).
-  pub record RoundStands (fsdi : ℕ) (poll : PollState) (left : ℕ) (collided : Bool) (talk : Talk) (st : Standing) (said : List Said) : Type 0 where
+  pub record RoundStands (fsdi : ℕ) (poll : PollState) (left : ℕ) (collided : Bool) (talk : Talk) (st : Standing) (said : List EventData) : Type 0 where
     pub round : AtRound fsdi poll st.doing
     pub goes : Before k ones (λ n. k.restarts s ≤ n) (InRound left collided) talk st.results said
 
   -- A wish stands for this standing and these events (this project's own).
-  pub record WishStands (objects : List Object) (link : Option Held) (wish : Wish) (talk : Talk) (st : Standing) (said : List Said) : Type 0 where
+  pub record WishStands (objects : List Object) (link : Option Held) (wish : Wish) (talk : Talk) (st : Standing) (said : List EventData) : Type 0 where
     pub does : Does link wish st.doing
     pub goes : Wished k ones s objects talk st.results said wish
 
   -- A step stands for this standing and these events (this project's own).
-  abbrev pub StepStands : List Object → ℕ → Option Held → Step → Talk → Standing → List Said → Type 0
+  abbrev pub StepStands : List Object → ℕ → Option Held → Step → Talk → Standing → List EventData → Type 0
   StepStands objects fsdi link (plain.Polling round) talk st said = RoundStands fsdi round.poll round.left round.collided talk st said
   StepStands objects fsdi link (plain.Waiting wish) talk st said = WishStands objects link wish talk st said
 
   -- What follows an exchange stands for this standing and these events (this project's own).
-  abbrev pub Turned : List Object → ℕ → Option Held → Onward → Talk → Standing → List Said → Type 0
+  abbrev pub Turned : List Object → ℕ → Option Held → Onward → Talk → Standing → List EventData → Type 0
   Turned objects fsdi link (plain.Ask ask step) talk st said = StepStands objects fsdi link step talk st said × (asked_by fsdi st.doing ≡ Some ask)
   Turned objects fsdi link (plain.Ended end) talk st said = EndsSo end talk st said

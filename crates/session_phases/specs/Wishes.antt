@@ -5,12 +5,12 @@ use Rattle.ep_base.specs.Objects.Arena.{Object}
 use Rattle.ep_rules.specs.EntryPoint.Candidates.{Candidate, candidates, final_command}
 use Rattle.ep_base.specs.Objects.Directory.{directory, entries_held}
 use Rattle.ep_rules.specs.EntryPoint.Kernel.{KernelSteps, KernelStep, Send, Done}
-use Rattle.ep_rules.specs.EntryPoint.PreProcessing.{Ready}
-use Rattle.ep_rules.specs.EntryPoint.Event.{Said, Activation, Verdict, Candidates, Finished}
+use Rattle.ep_rules.specs.EntryPoint.PreProcessing.{PreparedOne}
+use Rattle.ep_rules.specs.EntryPoint.Event.{Event as EventData, Activation, Verdict, Candidates, Finished}
 use Rattle.ep_rules.specs.EntryPoint.Talk.{Talk, Result, Say, Command, Close, Over}
 use Rattle.ep_rules.specs.EntryPoint.Talk as talks
 use Rattle.ep_rules.specs.EntryPoint.Transaction.{ends, starts, start_c, selects, activates, after_verdict, after_move, kernel_runs, given_to}
-use Rattle.kernel_port.specs.Kernels.{RestartsFall}
+use Rattle.ep_rules.specs.EntryPoint.KernelCounts.{RestartsFall}
 use Rattle.select_rules.specs.Left.{StandsFor}
 use Rattle.select_rules.specs.declared.pair.Pair.{Pair}
 use Rattle.session_phases.specs.Causes.{HasOutcome}
@@ -45,7 +45,7 @@ RestartsLeft (Send command) old new = new ≤ old
 RestartsLeft (Done verdict) old new = RestartsFall verdict.kind old new
 
 -- Before the close at which a transaction ends, an outcome was said (after EMV Contactless Book B).
-abbrev pub CloseDecided : Bool → List Said → Type 0
+abbrev pub CloseDecided : Bool → List EventData → Type 0
 CloseDecided true said = Unit {0}
 CloseDecided false said = HasOutcome said
 
@@ -55,7 +55,7 @@ RestartsAt (plain.Command command purpose) old new = new ≤ old
 RestartsAt (plain.Close true) old new = new < old
 RestartsAt (plain.Close false) old new = new ≤ old
 
-module _ {S : Type 0} (k : KernelSteps S) (ones : List Ready) where
+module _ {S : Type 0} (k : KernelSteps S) (ones : List PreparedOne) where
   -- What follows a close where a new Start B is wished and so many may still come (this project's own).
   abbrev pub next_start : ℕ → S → Talk
   next_start zero = λ _. Over Finished
@@ -63,7 +63,7 @@ module _ {S : Type 0} (k : KernelSteps S) (ones : List Ready) where
 
   -- The talk goes on as a rest that depends on how it starts again and on the candidates for which these pairs stand (this project's own).
   pub record Within (objects : List Object) (pairs : List Pair) (enough : ℕ → Type 0) (Rest : (S → Talk) → List Candidate → Talk → Type 0)
-      (talk : Talk) (results : List Result) (said : List Said) : Type 0 where
+      (talk : Talk) (results : List Result) (said : List EventData) : Type 0 where
     pub n : ℕ
     pub restarts : enough n
     pub count : ℕ
@@ -113,7 +113,7 @@ module _ {S : Type 0} (k : KernelSteps S) (ones : List Ready) where
         (n : ℕ) × (k.commands s < n) × (t ≡ Command command (λ r. kernel_runs k (after_verdict again (selects k again left)) n s (Some r)))
 
   -- The same without candidates (this project's own).
-  pub record Before (enough : ℕ → Type 0) (Rest : (S → Talk) → Talk → Type 0) (talk : Talk) (results : List Result) (said : List Said) : Type 0 where
+  pub record Before (enough : ℕ → Type 0) (Rest : (S → Talk) → Talk → Type 0) (talk : Talk) (results : List Result) (said : List EventData) : Type 0 where
     pub n : ℕ
     pub restarts : enough n
     pub rest : Talk
@@ -134,7 +134,7 @@ module _ {S : Type 0} (k : KernelSteps S) (ones : List Ready) where
     Closes true again t = t ≡ Close (again s)
     Closes false again t = t ≡ ends
 
-    module _ (objects : List Object) (talk : Talk) (results : List Result) (said : List Said) where
+    module _ (objects : List Object) (talk : Talk) (results : List Result) (said : List EventData) where
       -- What a purpose stands for (this project's own).
       abbrev pub Serves : List ℕ → Purpose → Type 0
       Serves command plain.Directory = Before (λ n. k.restarts s ≤ n) (Looks command) talk results said

@@ -1,7 +1,7 @@
 //! What follows the response to a command.
 ghost use Rattle.std.specs.Prelude.{◌≡◌, ℕ, ◌+◌, ◌≤◌, List, [], ◌∷◌, ◌++◌, true};
 ghost use Rattle.arrayvec.specs.ArrayVec.{array_vec_len};
-ghost use Rattle.ep_rules.specs.EntryPoint.Event.{Said};
+ghost use Rattle.ep_rules.specs.EntryPoint.Event.{Event as EventData};
 ghost use Rattle.ep_rules.specs.EntryPoint.Talk.{Talk, Result, Response as Responds};
 ghost use Rattle.session_phases.specs.Plain.{purpose_of, wish_of};
 ghost use Rattle.session_phases.specs.Room.{HasRoom};
@@ -13,17 +13,15 @@ use crate::events::note;
 use crate::running::after_command;
 use crate::selecting::after_select;
 use crate::steps::{Purpose, Selection, Wish};
-use apdu::Response;
-use kernel_port::Kernels;
+use kernel_port::{Event, EventList, Kernels};
 use pre_processing::Prepared;
-use session_event::{Event, EventList};
 use tlv_arena::Arena;
 
-/// What is wished after the response to a command that was sent for this purpose. The response is noted with its command.
+/// What is wished after the response to a command that was sent for this purpose. Both stand in the selection, and are
+/// noted.
 pub fn respond<K: Kernels>(
     purpose: Purpose,
     selection: &mut Selection,
-    response: &Response,
     prepared: &Prepared,
     arena: &mut Arena,
     kernels: &mut K,
@@ -32,27 +30,19 @@ pub fn respond<K: Kernels>(
     requires events { array_vec_len events.old + 6 ≤ 24 }
     requires room { HasRoom arena.old.contents }
     requires kernels { serves (K.is_open kernels.old) (K.is_fresh kernels.old) (purpose_of purpose selection.old) ≡ true }
-    ensures wishes { (talk : Talk) (results : List Result) (before : List Said)
+    ensures wishes { (talk : Talk) (results : List Result) (before : List EventData)
         → Serves K.steps prepared.now.list (K.state kernels.old) arena.old.objects talk results (before ++ told_by events.old.items) selection.old.command (purpose_of purpose selection.old)
-        → Wished K.steps prepared.now.list (K.state kernels.new) arena.new.objects talk (results ++ Responds response.now ∷ []) (before ++ told_by events.new.items) (wish_of result selection.new) }
+        → Wished K.steps prepared.now.list (K.state kernels.new) arena.new.objects talk (results ++ Responds selection.old.response ∷ []) (before ++ told_by events.new.items) (wish_of result selection.new) }
     ensures serves { serves_wish (K.is_open kernels.new) (K.is_fresh kernels.new) (wish_of result selection.new) ≡ true }
     ensures room { HasRoom arena.new.contents }
     ensures count { array_vec_len events.new ≤ array_vec_len events.old + 6 }
 {
     let command = selection.command.copy();
-    let answer = response.copy();
-    note(
-        events,
-        Event::Apdu {
-            command,
-            response: answer,
-        },
-    );
+    let response = selection.response.copy();
+    note(events, Event::Apdu { command, response });
     match purpose {
-        Purpose::Directory => after_directory(
-            selection, response, prepared, arena, kernels, events,
-        ),
-        Purpose::Final => after_select(selection, response, prepared, arena, kernels, events),
-        Purpose::Kernel => after_command(selection, response, prepared, arena, kernels, events),
+        Purpose::Directory => after_directory(selection, prepared, arena, kernels, events),
+        Purpose::Final => after_select(selection, prepared, arena, kernels, events),
+        Purpose::Kernel => after_command(selection, prepared, arena, kernels, events),
     }
 }

@@ -1,13 +1,15 @@
 //! What a session holds before its first transaction.
-ghost use Rattle.std.specs.Prelude.{◌≡◌, [], None};
+ghost use Rattle.std.specs.Prelude.{◌≡◌, [], false};
 
-use crate::polling::PPSE_NAME;
-use crate::steps::{Presentation, Round, Selection};
-use apdu::Command;
+use crate::steps::{LastLink, Presentation, Round, Selection};
+use apdu::{Command, PPSE_NAME, Response, SUCCESS};
 use arrayvec::ArrayVec;
+use block_reader::ReaderEnd;
+use ep_base::{CardKind, FRAME_16};
 use kernel_port::Activation;
 use poll_activate::{Poll, Rounds};
 use pre_processing::Indicators;
+use rf_frame::Activated;
 use select_rules::Candidates;
 use tlv_arena::Arena;
 
@@ -18,6 +20,30 @@ fn no_round() -> Round {
         left: 0,
         collided: false,
     }
+}
+
+/// A link that was never opened.
+fn no_link() -> LastLink
+    ensures { result.was_opened ≡ false }
+{
+    let card = Activated {
+        kind: CardKind::A,
+        id: ArrayVec::new(),
+        fsc: FRAME_16,
+        fwi: 0,
+    };
+    LastLink {
+        end: ReaderEnd::open(&card, 0),
+        was_opened: false,
+    }
+}
+
+/// A response without data.
+fn no_response() -> Response {
+    let Ok(response) = Response::of(&SUCCESS.to_be_bytes()) else {
+        unreachable!()
+    };
+    response
 }
 
 /// A selection that waits for nothing.
@@ -39,6 +65,7 @@ fn no_selection() -> Selection {
     };
     Selection {
         command: Command::select(&PPSE_NAME),
+        response: no_response(),
         given,
         rest: Candidates::none(),
     }
@@ -48,12 +75,12 @@ impl Presentation {
     /// Without a link, and without the end of a round.
     pub fn open(arena: Arena) -> Presentation
         ensures arena { result.arena ≡ arena }
-        ensures link { result.link ≡ None }
+        ensures link { result.link.was_opened ≡ false }
         ensures rounds { result.rounds.items ≡ [] }
     {
         Presentation {
             arena,
-            link: None,
+            link: no_link(),
             rounds: Rounds::new(),
             round: no_round(),
             selection: no_selection(),

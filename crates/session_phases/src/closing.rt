@@ -3,10 +3,10 @@ ghost use Rattle.std.specs.Prelude.{◌≡◌, ℕ, ◌<◌, Bool, List, [], ◌
 ghost use Rattle.arrayvec.specs.ArrayVec.{array_vec_len};
 ghost use Rattle.block_reader.specs.Stands.{Held};
 ghost use Rattle.ep_base.specs.Poll.Radio.{OpenLink};
-ghost use Rattle.ep_rules.specs.EntryPoint.Event.{Said, Ending, End as EndSaid};
+ghost use Rattle.ep_rules.specs.EntryPoint.Event.{Event as EventData, Ending, End as EndSaid};
 ghost use Rattle.ep_rules.specs.EntryPoint.Talk.{Talk, Result, Over};
 ghost use Rattle.ep_claim.specs.Lanes.Standing.{standing};
-ghost use Rattle.session_event.specs.Event.{said_of_end};
+ghost use Rattle.kernel_port.specs.Event.{said_of_end};
 ghost use Rattle.session_phases.specs.declared.steps.Selection.{Selection};
 ghost use Rattle.session_phases.specs.Causes.{EndDecided};
 ghost use Rattle.session_phases.specs.Plain.{onward_of};
@@ -18,9 +18,9 @@ ghost use Rattle.session_phases.specs.Told.{Comes, told_by};
 use crate::events::note;
 use crate::polling::open_round;
 use crate::steps::{Onward, Round};
+use kernel_port::{End, Event, EventList};
 use poll_activate::Rounds;
 use rf_frame::Ask;
-use session_event::{End, Event, EventList};
 
 /// The rounds of a Start B that may follow its first one.
 const MORE_ROUNDS: u8 = 63;
@@ -28,7 +28,7 @@ const MORE_ROUNDS: u8 = 63;
 /// A Start B begins, in which no round has ended.
 pub(crate) fn start_b(fsdi: u8, rounds: &mut Rounds, round: &mut Round, ask: &mut Ask) -> Onward
     requires { fsdi < 16 }
-    ensures turned { (talk : Talk) (results : List Result) (said : List Said) (next : List ℕ → Talk) (link : Option OpenLink) (end : Option Held) (selection : Selection)
+    ensures turned { (talk : Talk) (results : List Result) (said : List EventData) (next : List ℕ → Talk) (link : Option OpenLink) (end : Option Held) (selection : Selection)
         → Comes talk results said (polls 63 false (presents next))
         → RoundTurned fsdi end (onward_of result ask.new round.new selection) talk (standing talk results link) said next }
     ensures goes_on { (is_open is_fresh : Bool) (end : Option Held) (selection : Selection) → goes_on is_open is_fresh end (onward_of result ask.new round.new selection) ≡ true }
@@ -42,7 +42,7 @@ pub(crate) fn start_b(fsdi: u8, rounds: &mut Rounds, round: &mut Round, ask: &mu
 /// The talk is over: its end is noted.
 pub(crate) fn finish(end: End, events: &mut EventList) -> Onward
     requires { array_vec_len events.old < 24 }
-    ensures ended { (talk : Talk) (results : List Result) (before : List Said) (link : Option OpenLink) (e : Ending) → said_of_end end ≡ EndSaid e
+    ensures ended { (talk : Talk) (results : List Result) (before : List EventData) (link : Option OpenLink) (e : Ending) → said_of_end end ≡ EndSaid e
         → EndDecided end (before ++ told_by events.old.items)
         → Comes talk results (before ++ told_by events.old.items) (Over e)
         → EndsSo end talk (standing talk results link) (before ++ told_by events.new.items) }

@@ -3,8 +3,8 @@ ghost use Rattle.std.specs.Prelude.{◌≡◌, ℕ, ◌+◌, ◌≤◌, List, �
 ghost use Rattle.arrayvec.specs.ArrayVec.{array_vec_len};
 ghost use Rattle.ep_rules.specs.EntryPoint.Candidates.{Candidate};
 ghost use Rattle.ep_base.specs.Objects.Directory.{Entry};
-ghost use Rattle.ep_rules.specs.EntryPoint.PreProcessing.{Ready};
-ghost use Rattle.ep_rules.specs.EntryPoint.Event.{Said};
+ghost use Rattle.ep_rules.specs.EntryPoint.PreProcessing.{PreparedOne};
+ghost use Rattle.ep_rules.specs.EntryPoint.Event.{Event as EventData};
 ghost use Rattle.ep_rules.specs.EntryPoint.Talk.{Talk, Result};
 ghost use Rattle.select_rules.specs.Left.{StandsFor};
 ghost use Rattle.session_phases.specs.Plain.{wish_of};
@@ -15,17 +15,15 @@ ghost use Rattle.session_phases.specs.Wishes.{Before, Lists, Wished, serves_wish
 use crate::events::note;
 use crate::selecting::select_left;
 use crate::steps::{Selection, Wish};
-use apdu::Response;
-use kernel_port::Kernels;
+use kernel_port::{Event, EventList, Kernels};
 use ppse::read_directory;
 use pre_processing::Prepared;
 use select_rules::Candidates;
-use session_event::{Event, EventList};
 use tlv_arena::Arena;
 
 /// How many candidates there are.
 pub fn count_of(candidates: &Candidates) -> u16
-    ensures { (ones : List Ready) (entries : List Entry) (left : List Candidate) → StandsFor ones entries candidates.now left → result ≡ length left }
+    ensures { (ones : List PreparedOne) (entries : List Entry) (left : List Candidate) → StandsFor ones entries candidates.now left → result ≡ length left }
 {
     candidates.len() as u16
 }
@@ -33,7 +31,6 @@ pub fn count_of(candidates: &Candidates) -> u16
 /// The candidates of the directory that was answered, of which the first is selected.
 pub(crate) fn after_directory<K: Kernels>(
     selection: &mut Selection,
-    response: &Response,
     prepared: &Prepared,
     arena: &mut Arena,
     kernels: &K,
@@ -41,15 +38,15 @@ pub(crate) fn after_directory<K: Kernels>(
 ) -> Wish
     requires events { array_vec_len events.old + 3 ≤ 24 }
     requires room { HasRoom arena.old.contents }
-    ensures wishes { (talk : Talk) (results : List Result) (before : List Said)
-        → Before K.steps prepared.now.list (λ n. K.steps.restarts (K.state kernels.now) ≤ n) (Lists K.steps prepared.now.list (K.state kernels.now) response.now) talk results (before ++ told_by events.old.items)
+    ensures wishes { (talk : Talk) (results : List Result) (before : List EventData)
+        → Before K.steps prepared.now.list (λ n. K.steps.restarts (K.state kernels.now) ≤ n) (Lists K.steps prepared.now.list (K.state kernels.now) selection.old.response) talk results (before ++ told_by events.old.items)
         → Wished K.steps prepared.now.list (K.state kernels.now) arena.new.objects talk results (before ++ told_by events.new.items) (wish_of result selection.new) }
     ensures serves { serves_wish (K.is_open kernels.now) (K.is_fresh kernels.now) (wish_of result selection.new) ≡ true }
     ensures room { HasRoom arena.new.contents }
     ensures count { array_vec_len events.new ≤ array_vec_len events.old + 3 }
 {
     arena.clear();
-    let directory = read_directory(arena, response);
+    let directory = read_directory(arena, &selection.response);
     selection.rest = Candidates::build(prepared, arena, &directory);
     note(events, Event::Candidates(count_of(&selection.rest)));
     select_left(selection, prepared, arena, kernels, events)

@@ -21,5 +21,4 @@ pub use directory::count_of;
 pub use hearing::hear;
 pub use offers::{activation_of, answered, current, is_success};
 pub use opening::begin;
-pub use polling::PPSE_NAME;
-pub use steps::{Onward, Phase, Presentation, Purpose, Round, Selection, Wish};
+pub use steps::{LastLink, Onward, Phase, Presentation, Purpose, Round, Selection, Wish};

@@ -5,12 +5,10 @@ ghost use Rattle.block_reader.specs.Stands.{held, is_open, is_resting, Rests, As
 ghost use Rattle.ep_base.specs.Link.Carry.{turn_on};
 ghost use Rattle.ep_base.specs.Link.LinkEvents.{kept_after, exchange_of};
 ghost use Rattle.ep_base.specs.Link.ReaderEnd.{Reader};
-ghost use Rattle.ep_rules.specs.EntryPoint.Event.{Said};
+ghost use Rattle.ep_rules.specs.EntryPoint.Event.{Event as EventData};
 ghost use Rattle.ep_rules.specs.EntryPoint.Talk.{Talk, Result};
 ghost use Rattle.ep_claim.specs.Lanes.Standing.{after_turn, asked_by, doing_by};
 ghost use Rattle.rf_frame.specs.Meaning.{heard_of};
-ghost use Rattle.session_event.specs.Event.{said_of_end};
-ghost use Rattle.session_phases.specs.Ends.{end_of_failure, IsFailure};
 ghost use Rattle.session_phases.specs.declared.steps.Round.{Round};
 ghost use Rattle.session_phases.specs.Plain.{onward_of, purpose_of, wish_of};
 ghost use Rattle.session_phases.specs.Room.{HasRoom};
@@ -22,11 +20,10 @@ ghost use Rattle.session_phases.specs.Wishes.{Serves, serves, wished};
 use crate::answering::respond;
 use crate::events::note;
 use crate::steps::{Onward, Phase, Purpose, Selection, Wish};
-use block_reader::{LinkEnd, Next, ReaderEnd};
-use kernel_port::Kernels;
+use block_reader::{Follows, ReaderEnd};
+use kernel_port::{End, Event, EventList, Kernels};
 use pre_processing::Prepared;
 use rf_frame::{Ask, Heard};
-use session_event::{End, Event, EventList};
 use tlv_arena::Arena;
 
 /// Begins what is wished, over a link on which no command is open, and says what is asked first.
@@ -40,20 +37,8 @@ pub(crate) fn begin_wish(wish: Wish, selection: &Selection, end: &mut ReaderEnd,
     ensures kept { (reader : Reader) → Rests (held end.old) reader → (held end.new).since ≡ [] }
 {
     match wish {
-        Wish::Command(_) => *ask = end.begin(&selection.command),
-        Wish::Close { .. } => *ask = end.deselect(),
-    }
-}
-
-/// The end of a transaction whose link has failed.
-fn end_of(failure: &LinkEnd) -> End
-    requires { IsFailure failure.now }
-    ensures { result ≡ end_of_failure failure.now }
-{
-    match failure {
-        LinkEnd::Spent { .. } => End::Link,
-        LinkEnd::Breach(_) => End::Breach,
-        LinkEnd::Device => unreachable!(),
+        Wish::Command(_) => end.begin_into(&selection.command, ask),
+        Wish::Close { .. } => end.deselect_into(ask),
     }
 }
 
@@ -74,7 +59,7 @@ pub(crate) fn hear_command<K: Kernels>(
     requires room { HasRoom arena.old.contents }
     requires opened { is_open (held end.old) ≡ true }
     requires kernels { serves (K.is_open kernels.old) (K.is_fresh kernels.old) (purpose_of purpose selection.old) ≡ true }
-    ensures turned { (fsdi : ℕ) (talk : Talk) (results : List Result) (before : List Said) (reader : Reader) (round : Round) → Asking (held end.old) reader
+    ensures turned { (fsdi : ℕ) (talk : Talk) (results : List Result) (before : List EventData) (reader : Reader) (round : Round) → Asking (held end.old) reader
         → Serves K.steps prepared.now.list (K.state kernels.old) arena.old.objects talk results (before ++ told_by events.old.items) selection.old.command (purpose_of purpose selection.old)
         → Turned K.steps prepared.now.list (K.state kernels.new) arena.new.objects fsdi (Some (held end.new)) (onward_of result ask.new round selection.new) talk
         (after_turn talk results (held end.old).set (turn_on (held end.old).set reader (heard_of heard.now))) (before ++ told_by events.new.items) }
@@ -86,22 +71,21 @@ pub(crate) fn hear_command<K: Kernels>(
     ensures kept { (reader : Reader) → Asking (held end.old) reader
         → (held end.new).since ≡ kept_after (held end.old).since reader (turn_on (held end.old).set reader (heard_of heard.now)) (exchange_of (held end.old).set reader (heard_of heard.now)) }
 {
-    match end.heard(heard) {
-        Next::Ask(next) => {
-            *ask = next;
-            Onward::Goes(Phase::Waiting(Wish::Command(purpose)))
-        }
-        Next::Done(response) => {
-            let wish = respond(
-                purpose, selection, &response, prepared, arena, kernels, events,
-            );
+    match end.hear_into(heard, ask) {
+        Follows::Ask => Onward::Goes(Phase::Waiting(Wish::Command(purpose))),
+        Follows::Done => {
+            end.put_response(&mut selection.response);
+            let wish = respond(purpose, selection, prepared, arena, kernels, events);
             begin_wish(wish, selection, end, ask);
             Onward::Goes(Phase::Waiting(wish))
         }
-        Next::Failed(failure) => {
-            let end = end_of(&failure);
-            note(events, Event::End(end));
-            Onward::Ended(end)
+        Follows::Spent => {
+            note(events, Event::End(End::Link));
+            Onward::Ended(End::Link)
+        }
+        Follows::Breach(_) => {
+            note(events, Event::End(End::Breach));
+            Onward::Ended(End::Breach)
         }
     }
 }

@@ -2,7 +2,7 @@
 ghost use Rattle.std.specs.Prelude.{◌≡◌, ℕ, ◌+◌, ◌<◌, ◌≤◌, List, [], ◌++◌, true, length, None, if◌then◌else◌};
 ghost use Rattle.arrayvec.specs.ArrayVec.{array_vec_len};
 ghost use Rattle.ep_rules.specs.EntryPoint.Transaction.{say_ready, transaction};
-ghost use Rattle.ep_rules.specs.EntryPoint.Event.{Said, Finished};
+ghost use Rattle.ep_rules.specs.EntryPoint.Event.{Event as EventData, Finished};
 ghost use Rattle.ep_rules.specs.EntryPoint.Talk.{Talk, Result, Over};
 ghost use Rattle.ep_claim.specs.Lanes.Standing.{started};
 ghost use Rattle.session_phases.specs.Opening.{opens, OpenDecided};
@@ -15,16 +15,15 @@ ghost use Rattle.session_phases.specs.Told.{Comes, told_by};
 use crate::closing::{finish, start_b};
 use crate::events::note;
 use crate::steps::{Onward, Presentation};
-use kernel_port::{Kernels, Message, OutcomeKind};
+use kernel_port::{End, Event, EventList, Kernels, Message, OutcomeKind};
 use pre_processing::{Prepared, PreparedOne};
 use rf_frame::Ask;
-use session_event::{End, Event, EventList};
 
 /// Notes what Pre-Processing found of each Combination.
 fn note_list(ones: &[PreparedOne], events: &mut EventList)
     requires few { length ones.now ≤ 16 }
     requires events { array_vec_len events.old + length ones.now ≤ 24 }
-    ensures goes { (talk : Talk) (results : List Result) (before : List Said) (next : Talk)
+    ensures goes { (talk : Talk) (results : List Result) (before : List EventData) (next : Talk)
         → Comes talk results (before ++ told_by events.old.items) (say_ready 1 ones.now next)
         → Comes talk results (before ++ told_by events.new.items) next }
     ensures count { array_vec_len events.new ≡ array_vec_len events.old + length ones.now }
@@ -45,7 +44,7 @@ fn note_list(ones: &[PreparedOne], events: &mut EventList)
 /// Notes all up to the first Start B, or up to the end where there is none, and says whether there is one.
 fn open(prepared: &Prepared, events: &mut EventList) -> bool
     requires { array_vec_len events.old + 19 ≤ 24 }
-    ensures goes { (talk : Talk) (results : List Result) (before : List Said) (next : Talk)
+    ensures goes { (talk : Talk) (results : List Result) (before : List EventData) (next : Talk)
         → Comes talk results (before ++ told_by events.old.items) (opens prepared.now.txn_type prepared.now.amount prepared.now.list next)
         → Comes talk results (before ++ told_by events.new.items) (if result then next else Over Finished) }
     ensures decided { OpenDecided result (told_by events.new.items) }
@@ -85,9 +84,9 @@ pub fn begin<K: Kernels>(
     ensures rounds { presentation.new.rounds.items ≡ [] }
     ensures fits { FitsThen (onward_of result ask.new presentation.new.round presentation.new.selection) (ends_of presentation.new.rounds.items) }
     ensures done { DoneThen (onward_of result ask.new presentation.new.round presentation.new.selection) }
-    ensures link { presentation.new.link ≡ None }
+    ensures link { link_held presentation.new.link ≡ None }
 {
-    presentation.link = None;
+    presentation.link.was_opened = false;
     presentation.rounds.clear();
     if open(prepared, events) {
         return start_b(fsdi, &mut presentation.rounds, &mut presentation.round, ask);

@@ -6,7 +6,7 @@ ghost use Rattle.ep_base.specs.Cards.CardLimits.{AreLimits, EndsInLimits};
 ghost use Rattle.ep_base.specs.declared.outcome.Message.TheVariants.{OneCardOnly};
 ghost use Rattle.ep_base.specs.Poll.Radio.{OpenLink, link_to};
 ghost use Rattle.ep_base.specs.Poll.Round.{Stage, round_hears};
-ghost use Rattle.ep_rules.specs.EntryPoint.Event.{Said};
+ghost use Rattle.ep_rules.specs.EntryPoint.Event.{Event as EventData};
 ghost use Rattle.ep_rules.specs.EntryPoint.Talk.{Talk, Result, by_end, rounds, say_collision};
 ghost use Rattle.ep_claim.specs.Lanes.Standing.{after_stage, link_by, standing};
 ghost use Rattle.poll_activate.specs.Meaning.{ends_of};
@@ -23,18 +23,11 @@ ghost use Rattle.session_phases.specs.Told.{Comes, told_by};
 use crate::closing::finish;
 use crate::events::note;
 use crate::linking::begin_wish;
-use crate::steps::{Onward, Phase, Presentation, Purpose, Round, Selection, Wish};
-use apdu::Command;
-use block_reader::ReaderEnd;
-use kernel_port::Message;
+use crate::steps::{LastLink, Onward, Phase, Presentation, Purpose, Round, Selection, Wish};
+use apdu::{Command, PPSE_NAME};
+use kernel_port::{End, Event, EventList, Message};
 use poll_activate::Poll;
 use rf_frame::{Activated, Ask, Heard, RoundEnd};
-use session_event::{End, Event, EventList};
-
-/// The name of the Proximity Payment System Environment, 2PAY.SYS.DDF01 (EMV Book B).
-pub const PPSE_NAME: [u8; 14] = [
-    0x32, 0x50, 0x41, 0x59, 0x2e, 0x53, 0x59, 0x53, 0x2e, 0x44, 0x44, 0x46, 0x30, 0x31,
-];
 
 /// The first frame of a round, after which so many may still come.
 pub(crate) fn open_round(
@@ -45,7 +38,7 @@ pub(crate) fn open_round(
     ask: &mut Ask,
 ) -> Onward
     requires { fsdi < 16 }
-    ensures turned { (talk : Talk) (results : List Result) (said : List Said) (next : List ℕ → Talk) (link : Option OpenLink) (end : Option Held) (selection : Selection)
+    ensures turned { (talk : Talk) (results : List Result) (said : List EventData) (next : List ℕ → Talk) (link : Option OpenLink) (end : Option Held) (selection : Selection)
         → Comes talk results said (polls left collided (presents next))
         → RoundTurned fsdi end (onward_of result ask.new round.new selection) talk (standing talk results link) said next }
     ensures goes_on { (is_open is_fresh : Bool) (end : Option Held) (selection : Selection) → goes_on is_open is_fresh end (onward_of result ask.new round.new selection) ≡ true }
@@ -54,7 +47,7 @@ pub(crate) fn open_round(
     round.poll = Poll::open(fsdi);
     round.left = left;
     round.collided = collided;
-    *ask = round.poll.ask();
+    round.poll.ask_into(ask);
     Onward::Goes(Phase::Polling)
 }
 
@@ -69,7 +62,7 @@ fn next_round(
 ) -> Onward
     requires code { fsdi < 16 }
     requires events { array_vec_len events.old < 24 }
-    ensures turned { (talk : Talk) (results : List Result) (before : List Said) (next : List ℕ → Talk) (link : Option OpenLink) (end : Option Held) (selection : Selection)
+    ensures turned { (talk : Talk) (results : List Result) (before : List EventData) (next : List ℕ → Talk) (link : Option OpenLink) (end : Option Held) (selection : Selection)
         → Comes talk results (before ++ told_by events.old.items) (rounds OneCardOnly left collided (presents next))
         → RoundTurned fsdi end (onward_of result ask.new round.new selection) talk (standing talk results link) (before ++ told_by events.new.items) next }
     ensures goes_on { (is_open is_fresh : Bool) (end : Option Held) (selection : Selection) → goes_on is_open is_fresh end (onward_of result ask.new round.new selection) ≡ true }
@@ -85,7 +78,7 @@ fn next_round(
 fn find(
     card: &Activated,
     fsdi: u8,
-    link: &mut Option<ReaderEnd>,
+    link: &mut LastLink,
     selection: &mut Selection,
     events: &mut EventList,
     ask: &mut Ask,
@@ -93,7 +86,7 @@ fn find(
     requires code { fsdi < 16 }
     requires limits { AreLimits card.now.fsc card.now.fwi }
     requires events { array_vec_len events.old < 24 }
-    ensures turned { (talk : Talk) (results : List Result) (before : List Said) (next : List ℕ → Talk) (round : Round)
+    ensures turned { (talk : Talk) (results : List Result) (before : List EventData) (next : List ℕ → Talk) (round : Round)
         → Comes talk results (before ++ told_by events.old.items) (presents next card.now)
         → RoundTurned fsdi (link_held link.new) (onward_of result ask.new round selection.new) talk (standing talk results (Some (link_to fsdi card.now))) (before ++ told_by events.new.items) next }
     ensures goes_on { (is_open is_fresh : Bool) (round : Round) → goes_on is_open is_fresh (link_held link.new) (onward_of result ask.new round selection.new) ≡ true }
@@ -108,11 +101,11 @@ fn find(
             id: found.id,
         },
     );
-    let mut end = ReaderEnd::open(card, fsdi);
+    link.end.reopen(card, fsdi);
+    link.was_opened = true;
     selection.command = Command::select(&PPSE_NAME);
     let wish = Wish::Command(Purpose::Directory);
-    begin_wish(wish, selection, &mut end, ask);
-    *link = Some(end);
+    begin_wish(wish, selection, &mut link.end, ask);
     Onward::Goes(Phase::Waiting(wish))
 }
 
@@ -127,7 +120,7 @@ fn collide(
 ) -> Onward
     requires code { fsdi < 16 }
     requires events { array_vec_len events.old + 2 ≤ 24 }
-    ensures turned { (talk : Talk) (results : List Result) (before : List Said) (next : List ℕ → Talk) (link : Option OpenLink) (end : Option Held) (selection : Selection)
+    ensures turned { (talk : Talk) (results : List Result) (before : List EventData) (next : List ℕ → Talk) (link : Option OpenLink) (end : Option Held) (selection : Selection)
         → Comes talk results (before ++ told_by events.old.items) (say_collision collided OneCardOnly (rounds OneCardOnly left true (presents next)))
         → RoundTurned fsdi end (onward_of result ask.new round.new selection) talk (standing talk results link) (before ++ told_by events.new.items) next }
     ensures goes_on { (is_open is_fresh : Bool) (end : Option Held) (selection : Selection) → goes_on is_open is_fresh end (onward_of result ask.new round.new selection) ≡ true }
@@ -146,7 +139,7 @@ fn after_round(
     left: u8,
     collided: bool,
     round: &mut Round,
-    link: &mut Option<ReaderEnd>,
+    link: &mut LastLink,
     selection: &mut Selection,
     events: &mut EventList,
     ask: &mut Ask,
@@ -154,7 +147,7 @@ fn after_round(
     requires code { fsdi < 16 }
     requires limits { EndsInLimits (round_end_of end.now) }
     requires events { array_vec_len events.old + 2 ≤ 24 }
-    ensures turned { (talk : Talk) (results : List Result) (before : List Said) (next : List ℕ → Talk)
+    ensures turned { (talk : Talk) (results : List Result) (before : List EventData) (next : List ℕ → Talk)
         → Comes talk results (before ++ told_by events.old.items) (by_end OneCardOnly collided (λ c. rounds OneCardOnly left c (presents next)) (presents next) (round_end_of end.now))
         → RoundTurned fsdi (link_held link.new) (onward_of result ask.new round.new selection.new) talk (standing talk results (link_by fsdi (round_end_of end.now))) (before ++ told_by events.new.items) next }
     ensures goes_on { (is_open is_fresh : Bool) → goes_on is_open is_fresh (link_held link.new) (onward_of result ask.new round.new selection.new) ≡ true }
@@ -182,7 +175,7 @@ pub(crate) fn hear_round(
     requires code { fsdi < 16 }
     requires going { IsSome presentation.old.round.poll.stage }
     requires events { array_vec_len events.old + 2 ≤ 24 }
-    ensures turned { (talk : Talk) (results : List Result) (before : List Said) (next : List ℕ → Talk) (stage : Stage)
+    ensures turned { (talk : Talk) (results : List Result) (before : List EventData) (next : List ℕ → Talk) (stage : Stage)
         → presentation.old.round.poll.stage ≡ Some stage → presentation.old.round.poll.fsdi ≡ fsdi
         → Comes talk results (before ++ told_by events.old.items) (polls presentation.old.round.left presentation.old.round.collided (presents next))
         → RoundTurned fsdi (link_held presentation.new.link) (onward_of result ask.new presentation.new.round presentation.new.selection) talk (after_stage fsdi talk results (round_hears stage (heard_of heard.now))) (before ++ told_by events.new.items) next }
@@ -197,7 +190,7 @@ pub(crate) fn hear_round(
         → kept_of (link_held presentation.new.link) ≡ kept_turned (round_hears stage (heard_of heard.now)) (kept_of (link_held presentation.old.link)) }
 {
     let Some(end) = presentation.round.poll.heard(heard) else {
-        *ask = presentation.round.poll.ask();
+        presentation.round.poll.ask_into(ask);
         return Onward::Goes(Phase::Polling);
     };
     let _full = presentation.rounds.try_push(end.copy());

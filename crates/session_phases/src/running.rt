@@ -1,9 +1,10 @@
 //! A kernel, from its activation to what follows its outcome.
 ghost use Rattle.std.specs.Prelude.{◌≡◌, ℕ, ◌+◌, ◌≤◌, List, ◌++◌, true, false};
 ghost use Rattle.arrayvec.specs.ArrayVec.{array_vec_len};
-ghost use Rattle.ep_rules.specs.EntryPoint.Event.{Said};
+ghost use Rattle.ep_rules.specs.EntryPoint.Event.{Event as EventData};
 ghost use Rattle.ep_rules.specs.EntryPoint.Talk.{Talk, Result};
-ghost use Rattle.kernel_port.specs.Kernels.{move_of, is_send, RestartsFall};
+ghost use Rattle.ep_rules.specs.EntryPoint.KernelCounts.{RestartsFall};
+ghost use Rattle.kernel_port.specs.Kernels.{move_of, is_send};
 ghost use Rattle.kernel_port.specs.Outcome.{verdict_of};
 ghost use Rattle.session_phases.specs.Plain.{wish_of};
 ghost use Rattle.session_phases.specs.Told.{told_by};
@@ -12,10 +13,8 @@ ghost use Rattle.session_phases.specs.Wishes.{Within, Decides, Moves, Activates,
 use crate::events::{note, note_outcome};
 use crate::selecting::select_left;
 use crate::steps::{Purpose, Selection, Wish};
-use apdu::Response;
-use kernel_port::{KernelStep, Kernels, Outcome, OutcomeKind};
+use kernel_port::{Event, EventList, KernelStep, Kernels, Outcome, OutcomeKind};
 use pre_processing::Prepared;
-use session_event::{Event, EventList};
 use tlv_arena::Arena;
 
 /// What follows an outcome: the candidates that are left, a new Start B, or the end.
@@ -28,7 +27,7 @@ fn decide<K: Kernels>(
     events: &mut EventList,
 ) -> Wish
     requires { array_vec_len events.old + 4 ≤ 24 }
-    ensures wishes { (talk : Talk) (results : List Result) (before : List Said)
+    ensures wishes { (talk : Talk) (results : List Result) (before : List EventData)
         → Within K.steps prepared.now.list arena.now.objects selection.old.rest (λ n. RestartsFall outcome.kind n (K.steps.restarts (K.state kernels.now))) (Decides K.steps prepared.now.list (K.state kernels.now) (verdict_of outcome)) talk results (before ++ told_by events.old.items)
         → Wished K.steps prepared.now.list (K.state kernels.now) arena.now.objects talk results (before ++ told_by events.new.items) (wish_of result selection.new) }
     ensures serves { serves_wish (K.is_open kernels.now) (K.is_fresh kernels.now) (wish_of result selection.new) ≡ true }
@@ -58,7 +57,7 @@ fn go_on<K: Kernels>(
     requires room { array_vec_len events.old + 4 ≤ 24 }
     requires opened { K.is_open kernels.now ≡ is_send step }
     requires begun { K.is_fresh kernels.now ≡ false }
-    ensures wishes { (talk : Talk) (results : List Result) (before : List Said)
+    ensures wishes { (talk : Talk) (results : List Result) (before : List EventData)
         → Within K.steps prepared.now.list arena.now.objects selection.old.rest (λ n. RestartsLeft (move_of step) n (K.steps.restarts (K.state kernels.now))) (Moves K.steps prepared.now.list (K.state kernels.now) (move_of step)) talk results (before ++ told_by events.old.items)
         → Wished K.steps prepared.now.list (K.state kernels.now) arena.now.objects talk results (before ++ told_by events.new.items) (wish_of result selection.new) }
     ensures serves { serves_wish (K.is_open kernels.now) (K.is_fresh kernels.now) (wish_of result selection.new) ≡ true }
@@ -82,7 +81,7 @@ pub(crate) fn activate<K: Kernels>(
     events: &mut EventList,
 ) -> Wish
     requires { array_vec_len events.old + 5 ≤ 24 }
-    ensures wishes { (talk : Talk) (results : List Result) (before : List Said)
+    ensures wishes { (talk : Talk) (results : List Result) (before : List EventData)
         → Within K.steps prepared.now.list arena.now.objects selection.old.rest (λ n. K.steps.restarts (K.state kernels.old) ≤ n) (Activates K.steps prepared.now.list (K.state kernels.old) selection.old.given) talk results (before ++ told_by events.old.items)
         → Wished K.steps prepared.now.list (K.state kernels.new) arena.now.objects talk results (before ++ told_by events.new.items) (wish_of result selection.new) }
     ensures serves { serves_wish (K.is_open kernels.new) (K.is_fresh kernels.new) (wish_of result selection.new) ≡ true }
@@ -97,7 +96,6 @@ pub(crate) fn activate<K: Kernels>(
 /// After the answer to an open kernel's command: the kernel makes its next step.
 pub(crate) fn after_command<K: Kernels>(
     selection: &mut Selection,
-    response: &Response,
     prepared: &Prepared,
     arena: &Arena,
     kernels: &mut K,
@@ -106,12 +104,12 @@ pub(crate) fn after_command<K: Kernels>(
     requires room { array_vec_len events.old + 4 ≤ 24 }
     requires opened { K.is_open kernels.old ≡ true }
     requires begun { K.is_fresh kernels.old ≡ false }
-    ensures wishes { (talk : Talk) (results : List Result) (before : List Said)
-        → Within K.steps prepared.now.list arena.now.objects selection.old.rest (λ n. K.steps.restarts (K.state kernels.old) ≤ n) (Hears K.steps prepared.now.list (K.state kernels.old) response.now) talk results (before ++ told_by events.old.items)
+    ensures wishes { (talk : Talk) (results : List Result) (before : List EventData)
+        → Within K.steps prepared.now.list arena.now.objects selection.old.rest (λ n. K.steps.restarts (K.state kernels.old) ≤ n) (Hears K.steps prepared.now.list (K.state kernels.old) selection.old.response) talk results (before ++ told_by events.old.items)
         → Wished K.steps prepared.now.list (K.state kernels.new) arena.now.objects talk results (before ++ told_by events.new.items) (wish_of result selection.new) }
     ensures serves { serves_wish (K.is_open kernels.new) (K.is_fresh kernels.new) (wish_of result selection.new) ≡ true }
     ensures count { array_vec_len events.new ≤ array_vec_len events.old + 4 }
 {
-    let step = kernels.step(Some(response));
+    let step = kernels.step(Some(&selection.response));
     go_on(step, selection, prepared, arena, kernels, events)
 }

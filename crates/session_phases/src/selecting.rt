@@ -1,20 +1,18 @@
 //! The candidates that are left, and what follows a final SELECT.
 ghost use Rattle.std.specs.Prelude.{◌≡◌, ℕ, ◌+◌, ◌≤◌, List, ◌++◌, true};
 ghost use Rattle.arrayvec.specs.ArrayVec.{array_vec_len};
-ghost use Rattle.ep_rules.specs.EntryPoint.Event.{Said};
+ghost use Rattle.ep_rules.specs.EntryPoint.Event.{Event as EventData};
 ghost use Rattle.ep_rules.specs.EntryPoint.Talk.{Talk, Result};
 ghost use Rattle.session_phases.specs.Plain.{wish_of};
 ghost use Rattle.session_phases.specs.Told.{told_by};
 ghost use Rattle.session_phases.specs.Wishes.{Within, Selects, Chosen, Wished, serves_wish};
 
 use crate::events::note;
-use crate::offers::{answered, current, is_success};
+use crate::offers::{is_success, put_answer, put_current};
 use crate::running::activate;
 use crate::steps::{Purpose, Selection, Wish};
-use apdu::Response;
-use kernel_port::{Kernels, Message, OutcomeKind};
+use kernel_port::{Event, EventList, Kernels, Message, OutcomeKind};
 use pre_processing::Prepared;
-use session_event::{Event, EventList};
 use tlv_arena::Arena;
 
 /// The final SELECT of the first candidate that is left; where none is, the card is let go.
@@ -26,16 +24,16 @@ pub(crate) fn select_left<K: Kernels>(
     events: &mut EventList,
 ) -> Wish
     requires { array_vec_len events.old + 2 ≤ 24 }
-    ensures wishes { (talk : Talk) (results : List Result) (before : List Said)
+    ensures wishes { (talk : Talk) (results : List Result) (before : List EventData)
         → Within K.steps prepared.now.list arena.now.objects selection.old.rest (λ n. K.steps.restarts (K.state kernels.now) ≤ n) (Selects K.steps prepared.now.list (K.state kernels.now)) talk results (before ++ told_by events.old.items)
         → Wished K.steps prepared.now.list (K.state kernels.now) arena.now.objects talk results (before ++ told_by events.new.items) (wish_of result selection.new) }
     ensures serves { serves_wish (K.is_open kernels.now) (K.is_fresh kernels.now) (wish_of result selection.new) ≡ true }
     ensures count { array_vec_len events.new ≤ array_vec_len events.old + 2 }
 {
-    if let Some((command, given)) = current(&selection.rest, prepared, arena) {
+    let command = &mut selection.command;
+    let given = &mut selection.given;
+    if put_current(&selection.rest, prepared, arena, command, given) {
         selection.rest.remove_current();
-        selection.command = command;
-        selection.given = given;
         return Wish::Command(Purpose::Final);
     }
     note(events, Event::Outcome(OutcomeKind::EndApplication));
@@ -46,21 +44,20 @@ pub(crate) fn select_left<K: Kernels>(
 /// After the answer to a final SELECT: its kernel is activated where that is 9000, else the candidates after it follow.
 pub(crate) fn after_select<K: Kernels>(
     selection: &mut Selection,
-    response: &Response,
     prepared: &Prepared,
     arena: &Arena,
     kernels: &mut K,
     events: &mut EventList,
 ) -> Wish
     requires { array_vec_len events.old + 5 ≤ 24 }
-    ensures wishes { (talk : Talk) (results : List Result) (before : List Said)
-        → Within K.steps prepared.now.list arena.now.objects selection.old.rest (λ n. K.steps.restarts (K.state kernels.old) ≤ n) (Chosen K.steps prepared.now.list (K.state kernels.old) selection.old.given response.now) talk results (before ++ told_by events.old.items)
+    ensures wishes { (talk : Talk) (results : List Result) (before : List EventData)
+        → Within K.steps prepared.now.list arena.now.objects selection.old.rest (λ n. K.steps.restarts (K.state kernels.old) ≤ n) (Chosen K.steps prepared.now.list (K.state kernels.old) selection.old.given selection.old.response) talk results (before ++ told_by events.old.items)
         → Wished K.steps prepared.now.list (K.state kernels.new) arena.now.objects talk results (before ++ told_by events.new.items) (wish_of result selection.new) }
     ensures serves { serves_wish (K.is_open kernels.new) (K.is_fresh kernels.new) (wish_of result selection.new) ≡ true }
     ensures count { array_vec_len events.new ≤ array_vec_len events.old + 5 }
 {
-    if is_success(response) {
-        selection.given = answered(&selection.given, response);
+    if is_success(&selection.response) {
+        put_answer(&mut selection.given, &selection.response);
         return activate(selection, prepared, arena, kernels, events);
     }
     select_left(selection, prepared, arena, kernels, events)

@@ -1,11 +1,10 @@
 //! What a transaction does between two exchanges.
 
-use apdu::Command;
+use apdu::{Command, Response};
 use block_reader::ReaderEnd;
-use kernel_port::Activation;
+use kernel_port::{Activation, End};
 use poll_activate::{Poll, Rounds};
 use select_rules::Candidates;
-use session_event::End;
 use tlv_arena::Arena;
 
 /// What a command is sent for.
@@ -56,6 +55,8 @@ pub struct Round {
 pub struct Selection {
     /// The command that was sent last.
     pub command: Command,
+    /// The response that came last.
+    pub response: Response,
     /// What the current candidate's kernel is given but for the answer to its final SELECT.
     pub given: Activation,
     /// The candidates after the current one.
@@ -71,13 +72,22 @@ pub enum Onward {
     Ended(End),
 }
 
+/// The reader's end of the last link, which stays in place for the next one.
+#[derive(Drop)]
+pub struct LastLink {
+    /// The reader's end.
+    pub end: ReaderEnd,
+    /// Whether it was opened in this transaction.
+    pub was_opened: bool,
+}
+
 /// What a session keeps in place.
 #[derive(Drop)]
 pub struct Presentation {
     /// The objects of the last directory.
     pub arena: Arena,
-    /// The reader's end of the last link.
-    pub link: Option<ReaderEnd>,
+    /// The last link.
+    pub link: LastLink,
     /// How the rounds of the last Start B ended.
     pub rounds: Rounds,
     /// The last poll round.

@@ -1,14 +1,14 @@
 -- Where the objects lie.
-use Rattle.std.proofs.Common.{◌≡◌, ℕ, ◌<◌, Bool, true, false, ◌&&◌, inl, inr, List, [], ◌∷◌, ◌++◌, Some, None, length, map, get_or, refl, sym, ap, ◌∙◌, arith}
+use Rattle.std.proofs.Common.{◌≡◌, ℕ, ◌<◌, inl, inr, List, [], ◌∷◌, ◌++◌, Some, None, length, map, get_or, refl, sym, ap, ◌∙◌, arith}
 use Rattle.std.specs.List.{AllByRecursion}
 use Rattle.std.proofs.lemmas.Bool.{eq-eqb, ne_eqb}
 use Rattle.std.proofs.lemmas.List.{get_or_at}
-use Rattle.ep_base.specs.Objects.RawBytes.{run}
+use Rattle.ep_base.specs.Objects.RawBytes.{bytes_at}
 use Rattle.tlv_arena.specs.declared.slot.Slot.{Slot}
 use Rattle.tlv_arena.specs.declared.store.Store.{Store}
 use Rattle.tlv_arena.specs.declared.Arena.TheInside.{Inside}
 use Rattle.tlv_arena.specs.ArenaState.{held_of, IsArena}
-use Rattle.tlv_arena.specs.Layout.{Held, place_in, AllStand, IsClear, AreApart, IsLaidOut, LiesAt}
+use Rattle.tlv_arena.specs.Layout.{place_in, AllStand, IsClear, AreApart, IsLaidOut, LiesAt}
 use Rattle.tlv_arena.specs.StoreState.{objects_in, InBlock, Clear, Apart, IsStore, IsAt, IsAbsent}
 use Rattle.tlv_arena.proofs.Slide.{run_len}
 use Rattle.tlv_arena.proofs.Lists.{all_at}
@@ -17,7 +17,7 @@ use Rattle.tlv_arena.proofs.Slots.{value_of-at, place_below}
 abbrev pub places : List Slot → List ℕ
 places slots = map (λ (s : Slot). s.place) slots
 
-pub slot_len : (s : Store) → IsStore s → (i : ℕ) (x : Slot) → i < length s.live.items → x ≡ get_or s.live.items i x → length (run x.place x.len s.block.bytes) ≡ x.len
+pub slot_len : (s : Store) → IsStore s → (i : ℕ) (x : Slot) → i < length s.live.items → x ≡ get_or s.live.items i x → length (bytes_at x.place x.len s.block.bytes) ≡ x.len
 slot_len s is i x lt e =
     let b = s.block.bytes in let x_in : InBlock (length b) x = rw e (all_at (InBlock (length b)) s.live.items i x lt is.within) in
     run_len x.place x.len b x_in.ends
@@ -30,11 +30,11 @@ clear_of b s (t ∷ slots) n e w c =
 
 pub apart_of : (b : List ℕ) (slots : List Slot) → AllByRecursion (InBlock (length b)) slots → Apart slots → AreApart (objects_in b slots) (places slots)
 apart_of b [] w a = tt
-apart_of b (s ∷ slots) w a = (clear_of b s slots (length (run s.place s.len b)) (run_len s.place s.len b w.0.ends) w.1 a.0, apart_of b slots w.1 a.1)
+apart_of b (s ∷ slots) w a = (clear_of b s slots (length (bytes_at s.place s.len b)) (run_len s.place s.len b w.0.ends) w.1 a.0, apart_of b slots w.1 a.1)
 
 stand_of : (b : List ℕ) (slots : List Slot) → AllByRecursion (InBlock (length b)) slots → AllStand b (objects_in b slots) (places slots)
 stand_of b [] w = tt
-stand_of b (s ∷ slots) w = let long = run_len s.place s.len b w.0.ends in ((omega (arith, long, w.0.ends), ap (λ n. run s.place n b) long), stand_of b slots w.1)
+stand_of b (s ∷ slots) w = let long = run_len s.place s.len b w.0.ends in ((omega (arith, long, w.0.ends), ap (λ n. bytes_at s.place n b) long), stand_of b slots w.1)
 
 pub laid_out : (a : Inside) → IsArena a → IsLaidOut (held_of a)
 laid_out a is =
@@ -45,11 +45,11 @@ laid_out a is =
 pub lies_at : (a : Inside) → IsArena a → (serial i : ℕ) (x : Slot) → IsAt serial i a.store.live.items → x ≡ get_or a.store.live.items i x → LiesAt (held_of a) serial (Some x.place)
 lies_at a is serial i x at e =
     let s = a.store in let b = s.block.bytes in
-    let there = value_of-at b serial i s.live.items x at ∙ ap (λ (t : Slot). Some (run t.place t.len b)) (sym e) in
+    let there = value_of-at b serial i s.live.items x at ∙ ap (λ (t : Slot). Some (bytes_at t.place t.len b)) (sym e) in
     let lt = place_below b serial i s.live.items at in
     let x_in : InBlock (length b) x = rw e (all_at (InBlock (length b)) s.live.items i x lt is.store.within) in
     let long = run_len x.place x.len b x_in.ends in
-    rw there (omega (arith, long, x_in.ends), ap (λ n. run x.place n b) long)
+    rw there (omega (arith, long, x_in.ends), ap (λ n. bytes_at x.place n b) long)
 
 place_in-front : (b : List ℕ) (serial : ℕ) (front : List Slot) (slot : Slot) (back : List Slot) → IsAbsent serial front → slot.serial ≡ serial
     → place_in serial (objects_in b (front ++ slot ∷ back)) (places (front ++ slot ∷ back)) ≡ Some slot.place

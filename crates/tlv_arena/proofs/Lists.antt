@@ -4,7 +4,7 @@ use Rattle.std.specs.List.{AllByRecursion, remove}
 use Rattle.std.proofs.lemmas.Bool.{cases_Bool, ltb-true, ltb-false, lt-ltb, le-ltb}
 use Rattle.std.proofs.lemmas.List.{map-append}
 use Rattle.ep_base.specs.Objects.Arena.{Object, live_bytes}
-use Rattle.ep_base.specs.Objects.RawBytes.{run, slid}
+use Rattle.ep_base.specs.Objects.RawBytes.{bytes_at, slid}
 use Rattle.tlv_arena.specs.declared.slot.Slot.{Slot}
 use Rattle.tlv_arena.specs.StoreState.{object_at, objects_in, lens, InBlock, Clear, Apart, with_value, Side, part, parts_below, NotBelow, Done}
 use Rattle.tlv_arena.proofs.Slide.{run_len, moved, below, over}
@@ -122,14 +122,14 @@ apart_parts (x ∷ front) s t back a f b =
 
 -- VALUES
 
-pub same_objects : (b c : List ℕ) (slots : List Slot) → AllByRecursion (λ s. run s.place s.len c ≡ run s.place s.len b) slots → objects_in c slots ≡ objects_in b slots
+pub same_objects : (b c : List ℕ) (slots : List Slot) → AllByRecursion (λ s. bytes_at s.place s.len c ≡ bytes_at s.place s.len b) slots → objects_in c slots ≡ objects_in b slots
 same_objects b c [] h = refl
 same_objects b c (s ∷ slots) h = rw (h.0, same_objects b c slots h.1) refl
 
 -- one slot is written, and the others read as before
 pub objects-set : (b c : List ℕ) (slots : List Slot) (i : ℕ) (x y : Slot) (value : List ℕ) → i < length slots → x ≡ get_or slots i x
-    → y.serial ≡ x.serial → y.group ≡ x.group → y.tag ≡ x.tag → run y.place y.len c ≡ value
-    → AllByRecursion (λ s. run s.place s.len c ≡ run s.place s.len b) slots → objects_in c (set slots i y) ≡ with_value (objects_in b slots) i value
+    → y.serial ≡ x.serial → y.group ≡ x.group → y.tag ≡ x.tag → bytes_at y.place y.len c ≡ value
+    → AllByRecursion (λ s. bytes_at s.place s.len c ≡ bytes_at s.place s.len b) slots → objects_in c (set slots i y) ≡ with_value (objects_in b slots) i value
 objects-set b c [] i x y value lt e s g t v h = absurd (omega arith)
 objects-set b c (z ∷ slots) zero x y value lt e s g t v h =
     let serial : y.serial ≡ z.serial = s ∙ ap (λ (w : Slot). w.serial) e in
@@ -215,7 +215,7 @@ module _ (b : List ℕ) (to : ℕ) (front : List Slot) (s : Slot) (back : List S
   behind : AllByRecursion Beside back
   behind = besides back (all_back (InBlock (length b)) front s back within) (all_back (Side to) front s back sides) (all_back (NotBelow to s.place) front s back least) (clear_back front s back apart)
 
-  same_value : (t : Slot) → Beside t → run t.place t.len after ≡ run t.place t.len b
+  same_value : (t : Slot) → Beside t → bytes_at t.place t.len after ≡ bytes_at t.place t.len b
   same_value t h = elim h [
     | inl low ↦ below s.place to s.len b high ends t.place t.len low
     | inr past ↦ over s.place to s.len b high ends t.place t.len (omega arith)
@@ -235,7 +235,7 @@ module _ (b : List ℕ) (to : ℕ) (front : List Slot) (s : Slot) (back : List S
 
   pub slid-objects : objects_in after (front ++ down ∷ back) ≡ objects_in b (front ++ s ∷ back)
   slid-objects =
-      let Same = λ (t : Slot). run t.place t.len after ≡ run t.place t.len b in
+      let Same = λ (t : Slot). bytes_at t.place t.len after ≡ bytes_at t.place t.len b in
       map-append (object_at after) front (down ∷ back)
       ∙ rw (same_objects b after front (all_map Beside Same front same_value ahead), same_objects b after back (all_map Beside Same back same_value behind), moved s.place to s.len b high ends) refl
       ∙ sym (map-append (object_at b) front (s ∷ back))

@@ -4,7 +4,7 @@ use Rattle.std.specs.List.{AllByRecursion}
 use Rattle.std.specs.Vec.{with_item}
 use Rattle.std.proofs.lemmas.List.{get_or_at, set_at, length-take-le}
 use Rattle.ep_base.specs.Objects.Arena.{live_bytes}
-use Rattle.ep_base.specs.Objects.RawBytes.{block, run, slid}
+use Rattle.ep_base.specs.Objects.RawBytes.{block, bytes_at, slid}
 use Rattle.tlv_arena.specs.declared.slot.Slot.{Slot}
 use Rattle.tlv_arena.specs.declared.store.Store.{Store}
 use Rattle.tlv_arena.specs.StoreState.{objects_in, objects_of, lens, InBlock, Apart, IsStore, IsPacked, IsLowest, Side, NotBelow, Done, parts_below}
@@ -104,7 +104,7 @@ module _ (s : Store) (to : ℕ) (p : IsPacked to s) (done : AllByRecursion (Done
   pub cut-objects : objects_of cut ≡ objects_of s
   cut-objects =
       same_objects s.block.bytes (take to s.block.bytes) s.live.items
-      (all_map (λ (t : Slot). t.place + t.len ≤ to) (λ (t : Slot). run t.place t.len (take to s.block.bytes) ≡ run t.place t.len s.block.bytes) s.live.items (λ t le. run-cut t.place t.len to s.block.bytes le) low)
+      (all_map (λ (t : Slot). t.place + t.len ≤ to) (λ (t : Slot). bytes_at t.place t.len (take to s.block.bytes) ≡ bytes_at t.place t.len s.block.bytes) s.live.items (λ t le. run-cut t.place t.len to s.block.bytes le) low)
 
   pub cut-store : IsStore cut
   cut-store = record {

@@ -1,13 +1,13 @@
 -- Where the values of the live objects lie in the arena's one block.
 use Rattle.std.specs.Prelude.{◌≡◌, ℕ, ◌+◌, ◌≤◌, ◌⊎◌, ◌==◌, if◌then◌else◌, List, [], ◌∷◌, length, Option, Some, None, MatchOption}
 use Rattle.ep_base.specs.Objects.Arena.{Object, Contents, value_of}
-use Rattle.ep_base.specs.Objects.RawBytes.{Block, run}
+use Rattle.ep_base.specs.Objects.RawBytes.{RawBytes as RawBytesData, bytes_at}
 
 -- what an arena holds, its block, and the place of each object's value, in the order of the puts (this project's own)
 pub record Held : Type 0 where
   pub contents : Contents
   pub open contents use {objects, next, bytes, slots}
-  pub block : Block
+  pub block : RawBytesData
   pub places : List ℕ
 
 -- the place of the object with this serial (this project's own)
@@ -18,7 +18,7 @@ place_in serial (o ∷ objects) (p ∷ places) = if o.serial == serial then Some
 
 -- the bytes from place p on are this value (this project's own)
 abbrev pub Stands : ℕ → List ℕ → List ℕ → Type 0
-Stands p value bytes = (p + length value ≤ length bytes) × (run p (length value) bytes ≡ value)
+Stands p value bytes = (p + length value ≤ length bytes) × (bytes_at p (length value) bytes ≡ value)
 
 -- each value stands at its place (this project's own)
 abbrev pub AllStand : List ℕ → List Object → List ℕ → Type 0

@@ -2,13 +2,13 @@
 use Rattle.std.specs.Prelude.{zero, suc, ◌≡◌, ◌≢◌, ℕ, ◌+◌, ◌<◌, ◌≤◌, ◌⊎◌, if◌then◌else◌, nat_lt, List, [], ◌∷◌, ◌++◌, length, map, vec_len, vec_capacity}
 use Rattle.std.specs.List.{AllByRecursion}
 use Rattle.ep_base.specs.Objects.Arena.{Object}
-use Rattle.ep_base.specs.Objects.RawBytes.{run}
+use Rattle.ep_base.specs.Objects.RawBytes.{bytes_at}
 use Rattle.tlv_arena.specs.declared.slot.Slot.{Slot}
 use Rattle.tlv_arena.specs.declared.store.Store.{Store}
 
 -- the object of a slot, read in the block's bytes (this project's own)
 abbrev pub object_at : List ℕ → Slot → Object
-object_at bytes s = record { serial = s.serial; group = s.group; tag = s.tag; value = run s.place s.len bytes }
+object_at bytes s = record { serial = s.serial; group = s.group; tag = s.tag; value = bytes_at s.place s.len bytes }
 
 -- the objects of slots (this project's own)
 abbrev pub objects_in : List ℕ → List Slot → List Object

@@ -62,7 +62,7 @@ impl Arena {
     /// lends the value of each object that is live then.
     pub fn make_all(&mut self, calls: &[ArenaCall<'_>])
         requires { kept.HaveSerials (calls_of calls.now) self.old.contents }
-        ensures { self.new.contents ≡ kept.after_all (calls_of calls.now) self.old.contents }
+        ensures { self.new.contents ≡ kept.after_calls (calls_of calls.now) self.old.contents }
     {
         for call in calls {
             self.make(call);

@@ -74,7 +74,7 @@ impl Arena {
     pub fn open(alloc: Global, bytes: usize, slots: usize) -> Result<Arena, NoMemory>
         requires bytes { (1 ≤ bytes) × (bytes ≤ 65536) }
         requires slots { (1 ≤ slots) × (slots ≤ 65536) }
-        ensures { IfOk result (λ arena. arena.contents ≡ kept.opened bytes slots) }
+        ensures { IfOk result (λ arena. arena.contents ≡ kept.opened_arena bytes slots) }
     {
         let store = Store::open(alloc, bytes, slots)?;
         Ok(Arena { store, next: 0 })
@@ -120,7 +120,7 @@ impl Arena {
         requires { self.old.next < 2 ^ 64 - 1 }
         ensures answer { PutAnswer self.old.contents (length value.now) result }
         ensures contents { self.new.contents ≡ kept.after (kept.put group tag value.now) self.old.contents }
-        ensures ok { OnOk result (self.new.contents ≡ kept.added group tag value.now self.old.contents) }
+        ensures ok { OnOk result (self.new.contents ≡ kept.with_object group tag value.now self.old.contents) }
         ensures err { OnErr result (self.new ≡ self.old) }
         ensures least { self.old.next ≤ self.new.next }
         ensures most { self.new.next ≤ self.old.next + 1 }

@@ -7,7 +7,7 @@ use Rattle.std.proofs.lemmas.List.{append-nil, drop_at, take_at, length-append, 
 use Rattle.ep_base.specs.declared.objects.Node.{Node}
 use Rattle.ep_base.specs.Objects.Forest.{Forest, nothing, padding, primitive, constructed, spelling, nodes, IsForest, IsTag, tag_number, is_constructed, IsLength, MayStand}
 use Rattle.tlv_core.specs.declared.head.Head.{Head}
-use Rattle.tlv_core.specs.Scan.{Run, found, nodes_of, fault_of, Step, stop, skip, fault, give, entered, object_at, step, after, run, weight, reading, head_at}
+use Rattle.tlv_core.specs.Scan.{Run, found, nodes_of, fault_of, ScanStep, stop, skip, fault, give, entered, object_at, step, after, run, weight, reading, head_at}
 use Rattle.tlv_core.proofs.Heads.{made_head, head_again, fails_again, head_cases}
 
 -- THE NUMBER OF STEPS
@@ -20,7 +20,7 @@ pub length_long_enough : (l : List ℕ) (n : ℕ) → IsLength l n → 1 ≤ len
 length_long_enough [] n h = absurd h
 length_long_enough (b ∷ l) n h = omega arith
 
-abbrev pub Falls : Step → ℕ → Type 0
+abbrev pub Falls : ScanStep → ℕ → Type 0
 Falls stop k = Unit {0}
 Falls (skip at pieces) k = weight pieces < k
 Falls (fault e at) k = Unit {0}
@@ -50,7 +50,7 @@ step_falls at ([] ∷ above) = omega arith
 step_falls at ((b ∷ more) ∷ above) =
     elim (cases_eq b 0) [ inl e ↦ rw (eq-eqb b 0 e) (omega arith) | inr ne ↦ rw (ne_eqb b 0 ne) (object_falls at b more above ne) ]
 
-after_same : (f g : ℕ → List (List ℕ) → Run) (s : Step) (k : ℕ) → ((at : ℕ) (p : List (List ℕ)) → weight p < k → f at p ≡ g at p) → Falls s k → after f s ≡ after g s
+after_same : (f g : ℕ → List (List ℕ) → Run) (s : ScanStep) (k : ℕ) → ((at : ℕ) (p : List (List ℕ)) → weight p < k → f at p ≡ g at p) → Falls s k → after f s ≡ after g s
 after_same f g stop k same falls = refl
 after_same f g (skip at p) k same falls = same at p falls
 after_same f g (fault e at) k same falls = refl

@@ -70,31 +70,31 @@ fault_of ended = None
 fault_of (broke e p) = Some (e, p)
 fault_of (found x r) = fault_of r
 
-pub data Step : Type 0 where
-  stop : Step
-  skip : ℕ → List (List ℕ) → Step
-  fault : TlvFault → ℕ → Step
-  give : Node → ℕ → List (List ℕ) → Step
+pub data ScanStep : Type 0 where
+  stop : ScanStep
+  skip : ℕ → List (List ℕ) → ScanStep
+  fault : TlvFault → ℕ → ScanStep
+  give : Node → ℕ → List (List ℕ) → ScanStep
 
 abbrev pub node_at : ℕ → ℕ → Head → Node
 node_at depth at h = record { depth = depth; tag = h.tag; constructed = h.constructed; at = at + h.size; len = h.len }
 
 -- A constructed object's value is a piece of its own; the rest of its parent's piece comes after it.
-abbrev pub entered : ℕ → Head → Bool → List ℕ → List (List ℕ) → Step
+abbrev pub entered : ℕ → Head → Bool → List ℕ → List (List ℕ) → ScanStep
 entered at h true bytes above = give (node_at (length above) at h) (at + h.size) (take h.len (drop h.size bytes) ∷ drop h.len (drop h.size bytes) ∷ above)
 entered at h false bytes above = give (node_at (length above) at h) (at + h.size + h.len) (drop h.len (drop h.size bytes) ∷ above)
 
-abbrev pub object_at : ℕ → List ℕ → List (List ℕ) → Result Head TlvFault → Step
+abbrev pub object_at : ℕ → List ℕ → List (List ℕ) → Result Head TlvFault → ScanStep
 object_at at bytes above (Ok h) = entered at h h.constructed bytes above
 object_at at bytes above (Err e) = fault e at
 
 -- One step at place `at`: the first piece is what is left of the innermost object, the next of the one around it.
-abbrev pub step : ℕ → List (List ℕ) → Step
+abbrev pub step : ℕ → List (List ℕ) → ScanStep
 step at [] = stop
 step at ([] ∷ above) = skip at above
 step at ((b ∷ more) ∷ above) = if b == 0 then skip (at + 1) (more ∷ above) else object_at at (b ∷ more) above (head_at (length above) (b ∷ more))
 
-abbrev pub after : (ℕ → List (List ℕ) → Run) → Step → Run
+abbrev pub after : (ℕ → List (List ℕ) → Run) → ScanStep → Run
 after k stop = ended
 after k (skip at pieces) = k at pieces
 after k (fault e at) = broke e at

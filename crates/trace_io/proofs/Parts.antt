@@ -15,7 +15,8 @@ use Rattle.ep_base.specs.Cards.Apdu.{same_bytes}
 use Rattle.ep_base.specs.Air.Heard.{Heard, Silence, Noise, Overlap, Frame}
 use Rattle.ep_claim.specs.Text.TraceForm.{SpellsFrame, SpellsHeard, SpellsLine}
 use Rattle.ep_claim.specs.Text.TraceLine.{Shown, TraceLine, number_in, wave_letter, wave_named, frame_within, frame_spelled, after_equals, framed_spelled, heard_spelled, answer_wave, after_mark, read_shown, read_trace_line}
-use Rattle.ep_base.specs.Streams.Words.{◌>>=◌, cut, is_space}
+use Rattle.ep_base.specs.Streams.Words.{◌>>=◌, split_word, is_space}
+use Rattle.ep_base.specs.declared.limits.TheConstants.{FRAME}
 use Rattle.trace_io.proofs.Spelt.{leaning}
 use Rattle.trace_io.proofs.Taken.{is_that, that_is}
 
@@ -34,8 +35,8 @@ pair_is {X = X} {Y = Y} x a y b h = (ap (λ (o : Option (X × Y)). (some_of {X =
 value_is : {X : Type 0} (x a : X) → Some x ≡ Some a → x ≡ a
 value_is x a h = ap (λ o. some_of x o) h
 
-cut_is : (text w rest : List ℕ) → cut text ≡ Some (w, rest) → text ≡ w ++ 32 ∷ rest
-unfolding cut
+cut_is : (text w rest : List ℕ) → split_word text ≡ Some (w, rest) → text ≡ w ++ 32 ∷ rest
+unfolding split_word
 cut_is text w rest h = by_test (nat_lt (position_or_len is_space text) (length text)) refl h where
   by_test : (b : Bool) → nat_lt (position_or_len is_space text) (length text) ≡ b
       → if◌then◌else◌ {A = Option (List ℕ × List ℕ)} b (Some (before_first is_space text, after_first is_space text)) None ≡ Some (w, rest) → text ≡ w ++ 32 ∷ rest
@@ -69,18 +70,18 @@ wave_is : (word : List ℕ) (w : Wave) → wave_named word ≡ Some w → word �
 unfolding wave_named
 wave_is word w h = same_text word (wave_letter w) (sym (find_passes (λ wave. same_bytes word (wave_letter wave)) (AShort ∷ ABare ∷ A ∷ B ∷ []) w h))
 
-frame_by : (r : Result (List ℕ) FromHexError) (bytes : List ℕ) → frame_within r ≡ Some bytes → (r ≡ Ok bytes) × (1 ≤ length bytes) × (length bytes ≤ 256)
+frame_by : (r : Result (List ℕ) FromHexError) (bytes : List ℕ) → frame_within r ≡ Some bytes → (r ≡ Ok bytes) × (1 ≤ length bytes) × (length bytes ≤ FRAME)
 frame_by (Err e) bytes h = cc h
-frame_by (Ok found) bytes h = by_test (nat_le 1 (length found) && nat_le (length found) 256) refl h where
-  by_test : (b : Bool) → (nat_le 1 (length found) && nat_le (length found) 256) ≡ b → (if b then Some found else None) ≡ Some bytes → (◌≡◌ {A = Result (List ℕ) FromHexError} (Ok found) (Ok bytes)) × (1 ≤ length bytes) × (length bytes ≤ 256)
+frame_by (Ok found) bytes h = by_test (nat_le 1 (length found) && nat_le (length found) FRAME) refl h where
+  by_test : (b : Bool) → (nat_le 1 (length found) && nat_le (length found) FRAME) ≡ b → (if b then Some found else None) ≡ Some bytes → (◌≡◌ {A = Result (List ℕ) FromHexError} (Ok found) (Ok bytes)) × (1 ≤ length bytes) × (length bytes ≤ FRAME)
   by_test false is got = cc got
   by_test true is got =
       let same : found ≡ bytes = cc got in
-      let parts = and_parts (nat_le 1 (length found)) (nat_le (length found) 256) is in
+      let parts = and_parts (nat_le 1 (length found)) (nat_le (length found) FRAME) is in
       let some : 1 ≤ length found = grind (arith, nat_tests, parts.0) in
-      let few : length found ≤ 256 = grind (arith, nat_tests, parts.1) in
+      let few : length found ≤ FRAME = grind (arith, nat_tests, parts.1) in
       let least : 1 ≤ length bytes = rw same at some in
-      let most : length bytes ≤ 256 = rw same at few in
+      let most : length bytes ≤ FRAME = rw same at few in
       (rw same refl, least, most)
 
 frame_is : (digits bytes : List ℕ) → frame_spelled digits ≡ Some bytes → SpellsFrame digits bytes
@@ -147,13 +148,13 @@ marked text a0 a1 body rest first mark is_body is_rest = rw (first, mark, is_bod
 shown_is : (text : List ℕ) (sent : Shown) (answer : List ℕ) → read_shown text ≡ Some (sent, answer) → SpellsShown text sent answer
 unfolding read_shown
 shown_is text sent answer got =
-    let a = bound (cut text) _ (sent, answer) got in
+    let a = bound (split_word text) _ (sent, answer) got in
     let lane = bound (number_in 1 8 a.0.0) _ (sent, answer) a.2 in
-    let b = bound (cut a.0.1) _ (sent, answer) lane.2 in
+    let b = bound (split_word a.0.1) _ (sent, answer) lane.2 in
     let wave = bound (wave_named b.0.0) _ (sent, answer) b.2 in
-    let c = bound (cut b.0.1) _ (sent, answer) wave.2 in
+    let c = bound (split_word b.0.1) _ (sent, answer) wave.2 in
     let frame = bound (frame_spelled c.0.0) _ (sent, answer) c.2 in
-    let d = bound (cut c.0.1) _ (sent, answer) frame.2 in
+    let d = bound (split_word c.0.1) _ (sent, answer) frame.2 in
     let wait = bound (number_in 0 16384 d.0.0) _ (sent, answer) d.2 in
     let lane_is = number_is 1 8 a.0.0 lane.0 lane.1 in
     let wait_is = number_is 0 16384 d.0.0 wait.0 wait.1 in
@@ -186,7 +187,7 @@ mark_is parts body h = by_test (same_bytes parts.0 (codes "x")) refl h where
 pub read_spells : (text : List ℕ) (line : TraceLine) → read_trace_line text ≡ Some line → SpellsLine text line
 unfolding read_trace_line
 read_spells text line got =
-    let a = bound (cut text) _ line got in
+    let a = bound (split_word text) _ line got in
     let body = bound (after_mark a.0) _ line a.2 in
     let shown = bound (read_shown body.0) _ line body.2 in
     let mark = mark_is a.0 body.0 body.1 in

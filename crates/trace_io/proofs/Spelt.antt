@@ -7,6 +7,7 @@ use Rattle.hex.proofs.HexLemmas.{decode_of-encode_lower}
 use Rattle.ep_base.specs.declared.air.Wave.{Wave}
 use Rattle.ep_base.specs.declared.air.Wave.TheVariants.{AShort, ABare, A, B}
 use Rattle.ep_base.specs.Air.Heard.{Heard, Silence, Noise, Overlap, Frame}
+use Rattle.ep_base.specs.declared.limits.TheConstants.{FRAME}
 use Rattle.ep_claim.specs.Text.TraceForm.{SpellsFrame, SpellsHeard, SpellsLine, HoldsFrame, HoldsHeard, HoldsLine}
 use Rattle.ep_claim.specs.Text.TraceLine.{Shown, TraceLine, number_that, number_in, wave_letter, wave_named, frame_spelled, heard_spelled, heard_text, read_shown, read_trace_line, trace_text}
 use Rattle.rf_frame.proofs.Opening.{same_bytes as same_as_itself}
@@ -38,7 +39,7 @@ letter_has_none B = refl
 frame_read : (digits bytes : List ℕ) → SpellsFrame digits bytes → frame_spelled digits ≡ Some bytes
 unfolding frame_spelled
 frame_read digits bytes s =
-    let within : (nat_le 1 (length bytes) && nat_le (length bytes) 256) ≡ true = grind (arith, nat_tests, s.1, s.2) in
+    let within : (nat_le 1 (length bytes) && nat_le (length bytes) FRAME) ≡ true = grind (arith, nat_tests, s.1, s.2) in
     rw s.0 (rw within refl)
 
 heard_read : (sent : Wave) (text : List ℕ) (h : Heard) → SpellsHeard sent text h → heard_spelled sent text ≡ Some h

@@ -10,12 +10,13 @@ use Rattle.hex.specs.Hex.{decode_of}
 use Rattle.hex.specs.declared.error.FromHexError.{FromHexError}
 use Rattle.hex.proofs.HexLemmas.{decode_of-ok}
 use Rattle.ep_base.specs.Cards.Apdu.{same_bytes}
+use Rattle.ep_base.specs.declared.limits.TheConstants.{FRAME}
 use Rattle.ep_claim.specs.Text.TraceLine.{number_that, number_in, frame_within, frame_spelled, after_equals}
 
-outside : (n : ℕ) → (n < 1) ⊎ (256 < n) → (nat_le 1 n && nat_le n 256) ≡ false
+outside : (n : ℕ) → (n < 1) ⊎ (FRAME < n) → (nat_le 1 n && nat_le n FRAME) ≡ false
 outside n h = grind (arith, nat_tests)
 
-outside_by : (text : List ℕ) (r : Result (List ℕ) FromHexError) → decode_of text ≡ r → (length text / 2 < 1) ⊎ (256 < length text / 2) → frame_within r ≡ None
+outside_by : (text : List ℕ) (r : Result (List ℕ) FromHexError) → decode_of text ≡ r → (length text / 2 < 1) ⊎ (FRAME < length text / 2) → frame_within r ≡ None
 outside_by text (Err e) is out = refl
 outside_by text (Ok bytes) is out =
     let twice : length text ≡ 2 * length bytes = (decode_of-ok text bytes is).2 in
@@ -23,7 +24,7 @@ outside_by text (Ok bytes) is out =
     rw (outside (length bytes) (rw half at out))
 
 -- a text of another size spells no frame
-pub spelled_outside : (text : List ℕ) → (length text / 2 < 1) ⊎ (256 < length text / 2) → frame_spelled text ≡ None
+pub spelled_outside : (text : List ℕ) → (length text / 2 < 1) ⊎ (FRAME < length text / 2) → frame_spelled text ≡ None
 unfolding frame_spelled
 spelled_outside text out = outside_by text (decode_of text) refl out
 

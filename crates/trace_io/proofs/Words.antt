@@ -15,7 +15,7 @@ use Rattle.std.proofs.Math.Dec.{eqb}
 use Rattle.hex.specs.Hex.{decode_of, is_hex_digit}
 use Rattle.hex.proofs.HexLemmas.{decode_of-ok}
 use Rattle.std.specs.declared.result.Result.TheVariants.{Ok}
-use Rattle.ep_base.specs.Streams.Words.{cut, is_space}
+use Rattle.ep_base.specs.Streams.Words.{split_word, is_space}
 
 -- No byte of it is a space.
 abbrev pub NoSpace : List ℕ → Type 0
@@ -30,12 +30,12 @@ first_space w rest h =
     let at = prefix_len-append (λ b. not (is_space b)) w (32 ∷ rest) in
     (rw h at at) ∙ either_way (eqb (length w) (length w)) (length w)
 
-cut_at : (text : List ℕ) (n : ℕ) → position_or_len is_space text ≡ n → nat_lt n (length text) ≡ true → cut text ≡ Some (take n text, drop (n + 1) text)
-unfolding cut
+cut_at : (text : List ℕ) (n : ℕ) → position_or_len is_space text ≡ n → nat_lt n (length text) ≡ true → split_word text ≡ Some (take n text, drop (n + 1) text)
+unfolding split_word
 cut_at text n at within = rw at (rw within refl)
 
 -- a word is cut off at the space after it
-pub cut_word : (w rest : List ℕ) → NoSpace w → cut (w ++ 32 ∷ rest) ≡ Some (w, rest)
+pub cut_word : (w rest : List ℕ) → NoSpace w → split_word (w ++ 32 ∷ rest) ≡ Some (w, rest)
 cut_word w rest h =
     let within : nat_lt (length w) (length (w ++ 32 ∷ rest)) ≡ true = grind (arith, nat_tests, length-append w (32 ∷ rest)) in
     let head : take (length w) (w ++ 32 ∷ rest) ≡ w = take-append_seam w (32 ∷ rest) in

@@ -1,17 +1,17 @@
 //! The fields of a line that is read.
 ghost use Rattle.std.specs.Prelude.{◌≡◌, ◌≤◌, ◌<◌, ◌^◌, length, option_map, IfSome};
 ghost use Rattle.ep_claim.specs.Text.TraceLine.{after_equals, answer_wave, frame_spelled, framed_spelled, heard_spelled, number_in, number_that, wave_named};
-ghost use Rattle.ep_base.specs.Streams.Words.{cut};
+ghost use Rattle.ep_base.specs.Streams.Words.{split_word};
 ghost use Rattle.rf_frame.specs.Meaning.{heard_of};
 
-use ep_base::{FrameBuf, Wave};
+use ep_base::{FRAME, FrameBuf, Wave};
 use itoa::Buffer;
 use rf_frame::Heard;
 
 /// A word, and what stands after the space that ends it.
-#[tactic(auto, unfolding(ep_base::specs::Streams::Words::cut))]
+#[tactic(auto, unfolding(ep_base::specs::Streams::Words::split_word))]
 pub(crate) fn cut(text: &str) -> Option<(&str, &str)>
-    ensures { option_map (λ p. (p.0.now, p.1.now)) result ≡ cut text.now }
+    ensures { option_map (λ p. (p.0.now, p.1.now)) result ≡ split_word text.now }
 {
     text.split_once(' ')
 }
@@ -60,10 +60,10 @@ pub(crate) fn frame_spelled(digits: &str) -> Option<FrameBuf>
     ensures { option_map (λ b. b.items) result ≡ frame_spelled digits.now }
 {
     let count = digits.len() / 2;
-    if count < 1 || 256 < count {
+    if count < 1 || FRAME < count {
         return None;
     }
-    let mut room = [0u8; 256];
+    let mut room = [0u8; FRAME];
     match hex::decode_to_slice(digits, &mut room[..count]) {
         Err(_) => None,
         Ok(()) => FrameBuf::try_from(&room[..count]).ok(),

@@ -1,12 +1,12 @@
 //! An exchange, and its line.
-ghost use Rattle.std.specs.Prelude.{◌≡◌, ◌≤◌, ◌+◌, ◌++◌, [], length};
+ghost use Rattle.std.specs.Prelude.{◌≡◌, ◌≤◌, ◌<◌, ◌+◌, ◌*◌, ◌++◌, [], length};
 ghost use Rattle.ep_claim.specs.Text.TraceLine.{heard_text, shown_text, trace_line};
 ghost use Rattle.ep_claim.specs.Lanes.ReplayRun.{same_shown};
 ghost use Rattle.rf_frame.specs.Meaning.{heard_of};
 ghost use Rattle.trace_io.specs.Meaning.{traced_of};
 
 use crate::pieces::{push_hex, push_number, wave_letter};
-use ep_base::{FrameBuf, Line, Wave};
+use ep_base::{FRAME, FrameBuf, LINE_BYTES, Line, Wave};
 use rf_frame::{Heard, copy_frame};
 use std::marker::Model;
 
@@ -82,9 +82,9 @@ pub fn trace_line(line: &TraceLine, out: &mut Line)
 
 /// What was sent.
 pub(crate) fn push_shown(sent: &Shown, out: &mut Line)
-    requires { length out.old.bytes ≤ 640 }
+    requires { length out.old.bytes + (2 * FRAME + 48) ≤ LINE_BYTES }
     ensures text { out.new.bytes ≡ out.old.bytes ++ shown_text sent.now }
-    ensures most { length out.new.bytes ≤ length out.old.bytes + 560 }
+    ensures most { length out.new.bytes ≤ length out.old.bytes + (2 * FRAME + 48) }
 {
     push_number(u64::from(sent.lane), out);
     out.push_str(" ");
@@ -97,9 +97,9 @@ pub(crate) fn push_shown(sent: &Shown, out: &mut Line)
 
 // What was heard.
 fn push_heard(heard: &Heard, out: &mut Line)
-    requires { length out.old.bytes ≤ 601 }
+    requires { length out.old.bytes + (2 * FRAME + 1) < LINE_BYTES }
     ensures text { out.new.bytes ≡ out.old.bytes ++ heard_text (heard_of heard.now) }
-    ensures most { length out.new.bytes ≤ 1199 }
+    ensures most { length out.new.bytes < LINE_BYTES }
 {
     match heard {
         Heard::Silence => out.push_str("-"),

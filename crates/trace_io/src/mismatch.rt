@@ -1,10 +1,10 @@
 //! Where a run and a trace differ.
-ghost use Rattle.std.specs.Prelude.{◌≡◌, ◌≤◌, ◌+◌, ◌++◌, [], length};
+ghost use Rattle.std.specs.Prelude.{◌≡◌, ◌≤◌, ◌+◌, ◌*◌, ◌++◌, [], length};
 ghost use Rattle.trace_io.specs.MismatchText.{mismatch_text, side_text};
 
 use crate::line::{Shown, push_shown};
 use crate::pieces::push_number;
-use ep_base::Line;
+use ep_base::{FRAME, LINE_BYTES, Line};
 use std::marker::Model;
 
 /// The first place at which a run and a trace differ.
@@ -45,9 +45,9 @@ pub fn mismatch_text(mismatch: &Mismatch, out: &mut Line)
 
 // What was sent, or nothing.
 fn push_side(side: &Option<Shown>, out: &mut Line)
-    requires { length out.old.bytes ≤ 640 }
+    requires { length out.old.bytes + (2 * FRAME + 48) ≤ LINE_BYTES }
     ensures text { out.new.bytes ≡ out.old.bytes ++ side_text side.now }
-    ensures most { length out.new.bytes ≤ length out.old.bytes + 560 }
+    ensures most { length out.new.bytes ≤ length out.old.bytes + (2 * FRAME + 48) }
 {
     match side {
         Some(sent) => push_shown(sent, out),

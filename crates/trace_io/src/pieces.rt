@@ -3,12 +3,12 @@ ghost use Rattle.std.specs.Prelude.{◌≡◌, ◌≤◌, ◌+◌, ◌*◌, ◌+
 ghost use Rattle.hex.specs.Hex.{encode_lower};
 ghost use Rattle.ep_claim.specs.Text.TraceLine.{wave_letter};
 
-use ep_base::{Line, Wave};
+use ep_base::{FRAME, LINE_BYTES, Line, Wave};
 use itoa::Buffer;
 
 /// A number in decimal digits.
 pub(crate) fn push_number(number: u64, out: &mut Line)
-    requires { length out.old.bytes + 20 ≤ 1200 }
+    requires { length out.old.bytes + 20 ≤ LINE_BYTES }
     ensures text { out.new.bytes ≡ out.old.bytes ++ decimal number }
     ensures most { length out.new.bytes ≤ length out.old.bytes + 20 }
 {
@@ -19,12 +19,12 @@ pub(crate) fn push_number(number: u64, out: &mut Line)
 /// Bytes as hexadecimal digits, in lower case.
 #[tactic(auto, using(crate::proofs::HexText::hex_is_text))]
 pub(crate) fn push_hex(bytes: &[u8], out: &mut Line)
-    requires few { length bytes.now ≤ 256 }
-    requires room { length out.old.bytes + 2 * length bytes.now ≤ 1200 }
+    requires few { length bytes.now ≤ FRAME }
+    requires room { length out.old.bytes + 2 * length bytes.now ≤ LINE_BYTES }
     ensures text { out.new.bytes ≡ out.old.bytes ++ encode_lower bytes.now }
     ensures most { length out.new.bytes ≤ length out.old.bytes + 2 * length bytes.now }
 {
-    let mut digits = [0; 512];
+    let mut digits = [0; 2 * FRAME];
     let room = &mut digits[..2 * bytes.len()];
     hex::encode_to_slice(bytes, room).unwrap();
     out.push_str(str::from_utf8(room).unwrap());

@@ -1,7 +1,7 @@
 //! A trace as a medium.
 ghost use Rattle.std.specs.Prelude.{◌≡◌, ◌↔◌, ◌⊎◌, ◌<◌, length, map, option_map, IfSome, IsSome, is_ok, IsErr, Some, None};
 ghost use Rattle.ep_base.specs.Streams.Causes.{HasCause, Rose};
-ghost use Rattle.ep_claim.specs.Lanes.ReplayRun.{at_lane, begun, failing, finishes, next_line, next_place, replays};
+ghost use Rattle.ep_claim.specs.Lanes.ReplayRun.{at_lane, begun_replay, failing, finishes, next_line, next_place, replays};
 ghost use Rattle.rf_frame.specs.Meaning.{maybe_heard};
 ghost use Rattle.trace_io.specs.Meaning.{traced_of};
 ghost use Rattle.trace_io.specs.Replays.{replaying_of};
@@ -26,7 +26,7 @@ pub struct Replay {
 impl Replay {
     /// A trace of which no line was taken. Lane 1 sends until another one is named.
     pub fn of(lines: Vec<TraceLine>) -> Replay
-        ensures state { replaying_of result ≡ begun (map traced_of lines.items) }
+        ensures state { replaying_of result ≡ begun_replay (map traced_of lines.items) }
     {
         Replay {
             lines,

@@ -1,5 +1,5 @@
 use super::*;
-use ep_base::{FrameBuf, Line, Wave};
+use ep_base::{FRAME, FrameBuf, Line, Wave};
 use rf_frame::{Heard, Medium, RfFailed};
 use std::alloc::Global;
 use std::test::Fail;
@@ -119,12 +119,12 @@ fn the_longest_line(rt: HostRuntime) -> Result<(), Fail> {
         sent: Shown {
             lane: 255,
             wave: Wave::A,
-            frame: framed(&[0xff; 256])?,
+            frame: framed(&[0xff; FRAME])?,
             wait: u32::MAX,
         },
         heard: Heard::Frame {
             wave: Wave::A,
-            bytes: framed(&[0xff; 256])?,
+            bytes: framed(&[0xff; FRAME])?,
         },
     };
     let mut out = Line::new();

@@ -27,13 +27,13 @@ pub fn trace_of(alloc: Global, section: &Section) -> Result<Option<Vec<TraceLine
 struct LineText;
 
 impl Read for LineText {
-    ghost use Rattle.ep_claim.specs.Text.TraceLine.{TraceLine as Traced};
+    ghost use Rattle.ep_claim.specs.Text.TraceLine.{TraceLine as TraceLineData};
     ghost use Rattle.trace_io.specs.Meaning.{traced_of};
     ghost use Rattle.trace_table.specs.Trace.{line};
 
     type Out = TraceLine;
 
-    ghost Meaning = { Traced };
+    ghost Meaning = { TraceLineData };
 
     ghost seen = { traced_of };
 

@@ -1,7 +1,7 @@
 -- A reader in a round with a card of Type A (this project's own).
 use Rattle.std.specs.Prelude.{ℕ, List, [], Option, Some, None}
 use Rattle.ep_base.specs.declared.air.Wave.TheVariants.{AShort}
-use Rattle.ep_base.specs.Air.Heard.{Ask, asks, Heard, Turn, Ends, Broken}
+use Rattle.ep_base.specs.Air.Heard.{Ask, asks, Heard, RoundTurn, Ends, Broken}
 use Rattle.ep_base.specs.Cards.TypeA.{AStage, Woken, Level, Select, Complete, a_asks, a_says, a_hears}
 
 -- Its FSDI, and what it sent last while the round goes on.
@@ -19,17 +19,17 @@ abbrev pub asked : ReaderState → Ask
 asked r = asked_in r.fsdi r.stage
 
 -- What follows a good answer, where the round goes on.
-abbrev pub said : Option AStage → List ℕ → Turn AStage
+abbrev pub said : Option AStage → List ℕ → RoundTurn AStage
 said (Some stage) message = a_says stage message
 said None message = Ends Broken
 
 -- What follows a hearing, where the round goes on.
-abbrev pub turn_in : Option AStage → Heard → Turn AStage
+abbrev pub turn_in : Option AStage → Heard → RoundTurn AStage
 turn_in (Some stage) heard = a_hears stage heard
 turn_in None heard = Ends Broken
 
 -- What follows a hearing (this project's own).
-abbrev pub turn : ReaderState → Heard → Turn AStage
+abbrev pub turn : ReaderState → Heard → RoundTurn AStage
 turn r heard = turn_in r.stage heard
 
 -- A level was selected last.

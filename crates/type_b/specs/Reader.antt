@@ -1,7 +1,7 @@
 -- A reader in a round with a card of Type B (this project's own).
 use Rattle.std.specs.Prelude.{ℕ, [], Option, Some, None}
 use Rattle.ep_base.specs.declared.air.Wave.TheVariants.{B}
-use Rattle.ep_base.specs.Air.Heard.{Ask, asks, Heard, Turn, Ends, Broken}
+use Rattle.ep_base.specs.Air.Heard.{Ask, asks, Heard, RoundTurn, Ends, Broken}
 use Rattle.ep_base.specs.Cards.TypeB.{BStage, b_asks, b_hears}
 
 -- It waits for the answer to WUPB, or ATTRIB is its next frame or was sent last, or the round is over.
@@ -43,11 +43,11 @@ abbrev pub asked : ReaderState → Ask
 asked r = asked_in r.fsdi r.place
 
 -- What follows a hearing, where the round goes on.
-abbrev pub turn_in : Place → Heard → Turn BStage
+abbrev pub turn_in : Place → Heard → RoundTurn BStage
 turn_in New heard = Ends Broken
 turn_in (At stage) heard = b_hears stage heard
 turn_in Over heard = Ends Broken
 
 -- What follows a hearing (this project's own).
-abbrev pub turn : ReaderState → Heard → Turn BStage
+abbrev pub turn : ReaderState → Heard → RoundTurn BStage
 turn r heard = turn_in r.place heard

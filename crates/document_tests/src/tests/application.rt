@@ -1,127 +1,138 @@
-//! The keys of an application on a card.
+//! The keys of an application on a card, and of its rules.
 
-use super::{array, changed, check_faults, check_limits, check_refused};
-use scenario::DocKind::{BadValue, Missing, TooMany, UnknownKey, WrongKind};
+use super::check_table;
 use std::test::Fail;
 
-const TABLE: &str = "lanes[1].transactions[1].cards[1].apps[1]";
+#[test]
+fn keys_of_an_application(rt: HostRuntime) -> Result<(), Fail> {
+    check_table(&rt, APPLICATIONS)
+}
 
-const NAME: &str = "name = \"a0000000041010\"";
+#[test]
+fn keys_of_a_rule(rt: HostRuntime) -> Result<(), Fail> {
+    check_table(&rt, RULES)
+}
 
-const SELECT: &str = "select = [\"6f009000\"]";
+const APPLICATIONS: &str = r#"
+at lanes[1].transactions[1].cards[1].apps[1]
+for name = "a0000000041010"
+=> Missing @.name 0
+name = 0xa000 => WrongKind @.name 0
+name = '' => BadValue @.name 0
+name = 'a0000000' => BadValue @.name 8
+name = 'a00000000' => BadValue @.name 9
+name = 'visa000000' => BadValue @.name 10
+name = '000102030405060708090a0b0c0d0e0f10' => BadValue @.name 34
+name = 'a000000004' => read
+name = '000102030405060708090A0B0C0D0E0F' => read
 
-const TABLES: &str = r#"[[lanes.transactions.cards.apps]]
-name = "a0000000041010"
-select = ["6f009000"]
-[[lanes.transactions.cards.apps.rules]]
-prefix = "80a8"
-responses = ["80009000"]
+# unknown keys
+name = 'a0'\nzz = 1 => UnknownKey @ 4
+name = 'a0'\naa = 1 => UnknownKey @ 1
+name = 'a0'\nprefix = '80' => UnknownKey @ 2
+name = 'a0'\nwtx = 1\nwtxn = 1 => UnknownKey @ 5
+
+# waiting at a SELECT
+with name = 'a000000004'\n*
+wtx = -1 => BadValue @.wtx -1
+wtx = 9 => BadValue @.wtx 9
+wtx = 'x' => WrongKind @.wtx 0
+wtxm = 0 => BadValue @.wtxm 0
+wtxm = 60 => BadValue @.wtxm 60
+wtxm = true => WrongKind @.wtxm 0
+wtxm = 60\nwtx = 9 => BadValue @.wtx 9
+wtx = 0\nwtxm = 1 => read
+wtx = 8\nwtxm = 59 => read
+
+# answers to SELECT
+for select = ["6f009000"]
+=> Missing @.select 0
+with select = *
+'9000' => WrongKind @.select 0
+['9000', {}] => WrongKind @.select 0
+[] => BadValue @.select 0
+['90'] => BadValue @.select[1] 2
+['9000', '9'] => BadValue @.select[2] 1
+[<17:'',>] => TooMany @.select 17
+[<16:'6a82',>] => read
+
+# the array
+at lanes[1].transactions[1].cards[1].apps
+for applications
+=> read
+<17:[[lanes.transactions.cards.apps]]\nname = "a0000000041010"\nselect = ["6f009000"]\n[[lanes.transactions.cards.apps.rules]]\nprefix = "80a8"\nresponses = ["80009000"]\n> => TooMany @ 17
+<16:[[lanes.transactions.cards.apps]]\nname = "a0000000041010"\nselect = ["6f009000"]\n[[lanes.transactions.cards.apps.rules]]\nprefix = "80a8"\nresponses = ["80009000"]\n> => read
+[[lanes.transactions.cards.apps]]\nname = "a0000000041010"\nselect = ["6f009000"]\n[[lanes.transactions.cards.apps.rules]]\nprefix = "80a8"\nresponses = ["80009000"]\n[[lanes.transactions.cards.apps]]\nname = 'a0'\n => BadValue @[2].name 2
+with apps = *\n
+1 => WrongKind @ 0
+{} => WrongKind @ 0
+[1] => WrongKind @ 0
+[{}, 1] => WrongKind @ 0
+[{}] => Missing @[1].name 0
+[] => read
 "#;
 
-#[test]
-fn name(rt: HostRuntime) -> Result<(), Fail> {
-    let rows = [
-        ("", Missing, ".name", 0),
-        ("name = 0xa000", WrongKind, ".name", 0),
-        ("name = ''", BadValue, ".name", 0),
-        ("name = 'a0000000'", BadValue, ".name", 8),
-        ("name = 'a00000000'", BadValue, ".name", 9),
-        ("name = 'visa000000'", BadValue, ".name", 10),
-        (
-            "name = '000102030405060708090a0b0c0d0e0f10'",
-            BadValue,
-            ".name",
-            34,
-        ),
-    ];
-    check_faults(&rt, TABLE, NAME, &rows)?;
-    let texts = [
-        "name = 'a000000004'",
-        "name = '000102030405060708090A0B0C0D0E0F'",
-    ];
-    check_limits(&rt, NAME, &texts)
-}
+const RULES: &str = r#"
+at lanes[1].transactions[1].cards[1].apps[1].rules[1]
+for prefix = "80a8"
+=> Missing @.prefix 0
+prefix = 80 => WrongKind @.prefix 0
+prefix = ['80a8'] => WrongKind @.prefix 0
+prefix = '' => BadValue @.prefix 0
+prefix = '8' => BadValue @.prefix 1
+prefix = '8g' => BadValue @.prefix 2
+prefix = '<261:80>00' => BadValue @.prefix 524
+prefix = '<261:80>' => read
+prefix = '80' => read
 
-#[test]
-fn answers_to_select(rt: HostRuntime) -> Result<(), Fail> {
-    let rows = [
-        ("", Missing, ".select", 0),
-        ("select = '9000'", WrongKind, ".select", 0),
-        ("select = ['9000', {}]", WrongKind, ".select", 0),
-        ("select = []", BadValue, ".select", 0),
-        ("select = ['90']", BadValue, ".select[1]", 2),
-        ("select = ['9000', '9']", BadValue, ".select[2]", 1),
-    ];
-    check_faults(&rt, TABLE, SELECT, &rows)?;
-    let answers = array(&rt, "''", 17)?;
-    let more = format!(in rt.alloc(); "select = {answers}")?;
-    let document = changed(&rt, SELECT, &more)?;
-    let path = format!(in rt.alloc(); "{TABLE}.select")?;
-    check_refused(&rt, document.as_str(), (TooMany, path.as_str(), 17));
-    let answers = array(&rt, "'6a82'", 16)?;
-    let most = format!(in rt.alloc(); "select = {answers}")?;
-    check_limits(&rt, SELECT, &[most.as_str()])
-}
+# unknown keys
+prefix = ''\nzz = 1 => UnknownKey @ 3
+prefix = ''\naa = 1 => UnknownKey @ 1
+prefix = ''\nq = 1 => UnknownKey @ 2
+prefix = ''\nname = 'a000000004' => UnknownKey @ 1
 
-#[test]
-fn waiting_of_a_select(rt: HostRuntime) -> Result<(), Fail> {
-    let rows = [
-        ("name = 'a000000004'\nwtx = -1", BadValue, ".wtx", -1),
-        ("name = 'a000000004'\nwtx = 9", BadValue, ".wtx", 9),
-        ("name = 'a000000004'\nwtx = 'x'", WrongKind, ".wtx", 0),
-        ("name = 'a000000004'\nwtxm = 0", BadValue, ".wtxm", 0),
-        ("name = 'a000000004'\nwtxm = 60", BadValue, ".wtxm", 60),
-        ("name = 'a000000004'\nwtxm = true", WrongKind, ".wtxm", 0),
-        (
-            "name = 'a000000004'\nwtxm = 60\nwtx = 9",
-            BadValue,
-            ".wtx",
-            9,
-        ),
-    ];
-    check_faults(&rt, TABLE, NAME, &rows)?;
-    let texts = [
-        "name = 'a000000004'\nwtx = 0\nwtxm = 1",
-        "name = 'a000000004'\nwtx = 8\nwtxm = 59",
-    ];
-    check_limits(&rt, NAME, &texts)
-}
+# waiting
+with prefix = '80'\n*
+wtx = -1 => BadValue @.wtx -1
+wtx = 9 => BadValue @.wtx 9
+wtx = 1.0 => WrongKind @.wtx 0
+wtxm = 0 => BadValue @.wtxm 0
+wtxm = 60 => BadValue @.wtxm 60
+wtxm = '1' => WrongKind @.wtxm 0
+wtx = 0\nwtxm = 1 => read
+wtx = 8\nwtxm = 59 => read
 
-#[test]
-fn unknown_keys_of_an_application(rt: HostRuntime) -> Result<(), Fail> {
-    let rows = [
-        ("name = 'a0'\nzz = 1", UnknownKey, "", 4),
-        ("name = 'a0'\naa = 1", UnknownKey, "", 1),
-        ("name = 'a0'\nprefix = '80'", UnknownKey, "", 2),
-        ("name = 'a0'\nwtx = 1\nwtxn = 1", UnknownKey, "", 5),
-    ];
-    check_faults(&rt, TABLE, NAME, &rows)
-}
+# responses
+for responses = ["80009000"]
+=> Missing @.responses 0
+with responses = *
+'9000' => WrongKind @.responses 0
+[1] => WrongKind @.responses 0
+[] => BadValue @.responses 0
+['90'] => BadValue @.responses[1] 2
+['9000', 'OK00'] => BadValue @.responses[2] 4
+[<17:'9000',>] => TooMany @.responses 17
+[<16:'9000',>] => read
 
-#[test]
-fn the_array_of_applications(rt: HostRuntime) -> Result<(), Fail> {
-    let rows = [
-        ("apps = 1\n", WrongKind, "", 0),
-        ("apps = {}\n", WrongKind, "", 0),
-        ("apps = [1]\n", WrongKind, "", 0),
-        ("apps = [{}, 1]\n", WrongKind, "", 0),
-        ("apps = [{}]\n", Missing, "[1].name", 0),
-    ];
-    let table = "lanes[1].transactions[1].cards[1].apps";
-    check_faults(&rt, table, TABLES, &rows)?;
-    let seventeen = TABLES.repeat(rt.alloc(), 17)?;
-    let document = changed(&rt, TABLES, &seventeen)?;
-    check_refused(&rt, document.as_str(), (TooMany, table, 17));
-    let sixteen = TABLES.repeat(rt.alloc(), 16)?;
-    check_limits(&rt, TABLES, &["", "apps = []\n", sixteen.as_str()])
-}
+# the array
+at lanes[1].transactions[1].cards[1].apps[1].rules
+for rules
+=> read
+<33:[[lanes.transactions.cards.apps.rules]]\nprefix = "80a8"\nresponses = ["80009000"]\n> => TooMany @ 33
+<32:[[lanes.transactions.cards.apps.rules]]\nprefix = "80a8"\nresponses = ["80009000"]\n> => read
+with rules = *\n
+1 => WrongKind @ 0
+['80a8'] => WrongKind @ 0
+[{}] => Missing @[1].prefix 0
+[{prefix = '80'}] => Missing @[1].responses 0
+[] => read
 
-#[test]
-fn a_second_application(rt: HostRuntime) -> Result<(), Fail> {
-    let second = "[[lanes.transactions.cards.apps]]\nname = 'a0'\n";
-    let text = format!(in rt.alloc(); "{TABLES}{second}")?;
-    let document = changed(&rt, TABLES, &text)?;
-    let path = "lanes[1].transactions[1].cards[1].apps[2].name";
-    check_refused(&rt, document.as_str(), (BadValue, path, 2));
-    Ok(())
-}
+# the last response of the last rule
+at lanes[1].transactions[64].cards[1].apps[16].rules[32].responses[16]
+for document
+with version = 1\nlanes = [{transactions = [*]}]
+with <63:{type = 0, amount = 0, cards = [{kind = 'A', uid = '01020304'}]},> {type = 0, amount = 0, cards = [*]}
+with {kind = 'A', uid = '01020304', apps = [<15:{name = 'a000000004', select = ['9000']},> *]}
+with {name = 'a000000004', select = ['9000'], rules = [<31:{prefix = '80', responses = ['9000']},> *]}
+{prefix = '80', responses = [<15:'9000', > '90']} => BadValue @ 2
+"#;

@@ -1,197 +1,153 @@
-//! The keys of the root, and of a lane.
+//! The keys of the root and of a lane, the turns, and the trace of an earlier run.
 
-use super::{
-    DOCUMENT, LANE, array, changed, check_accepted, check_faults, check_limits, check_refused,
-};
-use scenario::DocKind::{BadValue, Missing, TooMany, UnknownKey, WrongKind};
-use scenario::{DocEnd, Scenario};
+use super::check_table;
 use std::test::Fail;
 
-const VERSION: &str = "version = 1";
-
 #[test]
-fn version(rt: HostRuntime) -> Result<(), Fail> {
-    let rows = [
-        ("", Missing, "version", 0),
-        ("version = '1'", WrongKind, "version", 0),
-        ("version = 1.0", WrongKind, "version", 0),
-        ("version = true", WrongKind, "version", 0),
-        ("version = [1]", WrongKind, "version", 0),
-        ("version = 0", BadValue, "version", 0),
-        ("version = 2", BadValue, "version", 2),
-        ("version = -1", BadValue, "version", -1),
-    ];
-    check_faults(&rt, "", VERSION, &rows)?;
-    let ends = [
-        (
-            "version = 9223372036854775807",
-            BadValue,
-            "version",
-            i64::MAX,
-        ),
-        (
-            "version = -9223372036854775808",
-            BadValue,
-            "version",
-            i64::MIN,
-        ),
-    ];
-    check_faults(&rt, "", VERSION, &ends)?;
-    check_limits(&rt, VERSION, &["version = 0x1"])
+fn keys_of_the_root(rt: HostRuntime) -> Result<(), Fail> {
+    check_table(&rt, ROOT)
 }
 
 #[test]
-fn exponent(rt: HostRuntime) -> Result<(), Fail> {
-    let rows = [
-        ("version = 1\nexponent = -1", BadValue, "exponent", -1),
-        ("version = 1\nexponent = 5", BadValue, "exponent", 5),
-        ("version = 1\nexponent = '2'", WrongKind, "exponent", 0),
-        ("version = 1\nexponent = 2.0", WrongKind, "exponent", 0),
-    ];
-    check_faults(&rt, "", VERSION, &rows)?;
-    check_limits(
-        &rt,
-        VERSION,
-        &["version = 1\nexponent = 0", "version = 1\nexponent = 4"],
-    )
+fn lanes_and_turns(rt: HostRuntime) -> Result<(), Fail> {
+    check_table(&rt, LANES)
 }
 
-#[test]
-fn frame_size_of_the_reader(rt: HostRuntime) -> Result<(), Fail> {
-    let rows = [
-        ("version = 1\nfsdi = -1", BadValue, "fsdi", -1),
-        ("version = 1\nfsdi = 9", BadValue, "fsdi", 9),
-        ("version = 1\nfsdi = '8'", WrongKind, "fsdi", 0),
-        ("version = 1\nfsdi = [8]", WrongKind, "fsdi", 0),
-    ];
-    check_faults(&rt, "", VERSION, &rows)?;
-    check_limits(
-        &rt,
-        VERSION,
-        &["version = 1\nfsdi = 0", "version = 1\nfsdi = 8"],
-    )
-}
+const ROOT: &str = r#"
+for version = 1
+# version
+=> Missing version 0
+version = '1' => WrongKind version 0
+version = 1.0 => WrongKind version 0
+version = true => WrongKind version 0
+version = [1] => WrongKind version 0
+version = 0 => BadValue version 0
+version = 2 => BadValue version 2
+version = -1 => BadValue version -1
+version = 9223372036854775807 => BadValue version 9223372036854775807
+version = -9223372036854775808 => BadValue version -9223372036854775808
+version = 0x1 => read
 
-#[test]
-fn unknown_keys_of_the_root(rt: HostRuntime) -> Result<(), Fail> {
-    let rows = [
-        ("version = 1\nzz = 1", UnknownKey, ".", 4),
-        ("version = 1\nZz = 1", UnknownKey, ".", 1),
-        ("version = 1\n'' = 1", UnknownKey, ".", 1),
-        ("version = 1\n'é' = 1", UnknownKey, ".", 4),
-        ("version = 1\nb = 1\na = 1", UnknownKey, ".", 1),
-        ("version = 1\ncombination = 1", UnknownKey, ".", 1),
-        ("version = 1\nlane = 1", UnknownKey, ".", 2),
-        ("version = 1\nlanes2.x = 1", UnknownKey, ".", 3),
-        ("version = 1\nupdates = []", UnknownKey, ".", 3),
-        ("version = 1\nversions = 1", UnknownKey, ".", 4),
-        ("version = 2\nfsdi = 9\nzz = 1", UnknownKey, ".", 5),
-    ];
-    check_faults(&rt, "", VERSION, &rows)
-}
+# the numbers for amounts and frames
+with version = 1\n*
+exponent = -1 => BadValue exponent -1
+exponent = 5 => BadValue exponent 5
+exponent = '2' => WrongKind exponent 0
+exponent = 2.0 => WrongKind exponent 0
+exponent = 0 => read
+exponent = 4 => read
+fsdi = -1 => BadValue fsdi -1
+fsdi = 9 => BadValue fsdi 9
+fsdi = '8' => WrongKind fsdi 0
+fsdi = [8] => WrongKind fsdi 0
+fsdi = 0 => read
+fsdi = 8 => read
 
-#[test]
-fn lanes(rt: HostRuntime) -> Result<(), Fail> {
-    let rows = [
-        ("version = 1", Missing, "lanes", 0),
-        ("version = 1\nlanes = {}", WrongKind, "lanes", 0),
-        ("version = 1\nlanes = 1", WrongKind, "lanes", 0),
-        ("version = 1\nlanes = [1]", WrongKind, "lanes", 0),
-        ("version = 1\nlanes = [{}, []]", WrongKind, "lanes", 0),
-        ("version = 1\nlanes = []", BadValue, "lanes", 0),
-        (
-            "version = 1\nlanes = [{}, {}]",
-            Missing,
-            "lanes[1].transactions",
-            0,
-        ),
-    ];
-    check_faults(&rt, "", DOCUMENT, &rows)?;
-    for (count, number) in [(9, 9), (10, 10), (100, 100)] {
-        let lanes = array(&rt, "{}", count)?;
-        let document = format!(in rt.alloc(); "version = 1\nlanes = {lanes}")?;
-        check_refused(&rt, document.as_str(), (TooMany, "lanes", number));
-    }
-    Ok(())
-}
+# unknown keys
+zz = 1 => UnknownKey . 4
+Zz = 1 => UnknownKey . 1
+'' = 1 => UnknownKey . 1
+'é' = 1 => UnknownKey . 4
+b = 1\na = 1 => UnknownKey . 1
+combination = 1 => UnknownKey . 1
+lane = 1 => UnknownKey . 2
+lanes2.x = 1 => UnknownKey . 3
+updates = [] => UnknownKey . 3
+versions = 1 => UnknownKey . 4
+for version = 1
+version = 2\nfsdi = 9\nzz = 1 => UnknownKey . 5
 
-#[test]
-fn one_to_eight_lanes(rt: HostRuntime) -> Result<(), Fail> {
-    for count in 1..=8 {
-        let lanes = array(&rt, LANE, count)?;
-        let document = format!(in rt.alloc(); "version = 1\nlanes = {lanes}")?;
-        let scenario = Scenario::of_bytes(rt.alloc(), document.as_bytes()).ok();
-        let scenario = scenario.expect(&rt, "a document that is accepted");
-        assert_eq!(rt; scenario.lanes.len(), count);
-    }
-    let right = LANE;
-    let rows = [
-        ("{}", Missing, "lanes[3].transactions", 0),
-        ("{transactions = []}", BadValue, "lanes[3].transactions", 0),
-        ("{zz = 1}", UnknownKey, "lanes[3]", 1),
-    ];
-    for (lane, kind, path, number) in rows {
-        let document = format!(in rt.alloc();
-            "version = 1\nlanes = [{right}, {right}, {lane}, {{}}]"
-        )?;
-        check_refused(&rt, document.as_str(), (kind, path, number));
-    }
-    Ok(())
-}
+# the trace of an earlier run
+with version = 1\ntrace = *
+1 => WrongKind trace 0
+'x 1 S 52 0 -' => WrongKind trace 0
+['x 9 S 52 0 -', 1] => WrongKind trace 0
+['x 1 S 52 0 -', 'x 9 S 52 0 -'] => BadValue trace[2] 12
+[''] => BadValue trace[1] 0
+[<65537:'',>] => TooMany trace 65537
 
-#[test]
-fn keys_of_a_lane(rt: HostRuntime) -> Result<(), Fail> {
-    let rows = [
-        ("{}", Missing, ".transactions", 0),
-        ("{transactions = 1}", WrongKind, ".transactions", 0),
-        ("{transactions = {}}", WrongKind, ".transactions", 0),
-        ("{transactions = [1]}", WrongKind, ".transactions", 0),
-        ("{transactions = []}", BadValue, ".transactions", 0),
-        ("{transactions = [{}]}", Missing, ".transactions[1].type", 0),
-        ("{transactions = [], zz = 1}", UnknownKey, "", 2),
-        ("{aa = 1}", UnknownKey, "", 1),
-        ("{type = 1, transactions = 1}", UnknownKey, "", 2),
-    ];
-    for (lane, kind, key, number) in rows {
-        let document = format!(in rt.alloc(); "version = 1\nlanes = [{lane}]")?;
-        let path = format!(in rt.alloc(); "lanes[1]{key}")?;
-        check_refused(&rt, document.as_str(), (kind, path.as_str(), number));
-    }
-    Ok(())
-}
+# no TOML
+for document
+a= => NotToml
+version = 1\nversion = 1 => NotToml
+version = 9223372036854775808 => NotToml
+zz = 1\n[ => NotToml
+for amount = 1000
+amount = 1000\namount = -1 => NotToml
+"#;
 
-const SMALL: &str = "{type = 0, amount = 0, cards = [{kind = 'A', uid = '01020304'}]}";
+const LANES: &str = r#"
+for document
+version = 1 => Missing lanes 0
 
-#[test]
-fn sixty_four_transactions_and_one_more(rt: HostRuntime) -> Result<(), Fail> {
-    let most = array(&rt, SMALL, 64)?;
-    let document = format!(in rt.alloc(); "version = 1\nlanes = [{{transactions = {most}}}]")?;
-    check_accepted(&rt, document.as_str());
-    let more = array(&rt, "{}", 65)?;
-    let document = format!(in rt.alloc(); "version = 1\nlanes = [{{transactions = {more}}}]")?;
-    check_refused(
-        &rt,
-        document.as_str(),
-        (TooMany, "lanes[1].transactions", 65),
-    );
-    Ok(())
-}
+# how many lanes
+with version = 1\nlanes = *
+{} => WrongKind lanes 0
+1 => WrongKind lanes 0
+[1] => WrongKind lanes 0
+[{}, []] => WrongKind lanes 0
+[] => BadValue lanes 0
+[{}, {}] => Missing lanes[1].transactions 0
+[<9:{},>] => TooMany lanes 9
+[<10:{},>] => TooMany lanes 10
+[<100:{},>] => TooMany lanes 100
 
-#[test]
-fn bytes_that_are_no_toml(rt: HostRuntime) -> Result<(), Fail> {
-    let documents: [&[u8]; 5] = [
-        b"a=",
-        b"version = 1\nversion = 1",
-        b"version = '\xff'",
-        b"version = 9223372036854775808",
-        b"zz = 1\n[",
-    ];
-    for document in documents {
-        let end = Scenario::of_bytes(rt.alloc(), document).err();
-        assert!(rt; matches!(end, Some(DocEnd::NotToml)), "{document:?}");
-    }
-    let twice = changed(&rt, "amount = 1000", "amount = 1000\namount = -1")?;
-    let end = Scenario::of_bytes(rt.alloc(), twice.as_bytes()).err();
-    assert!(rt; matches!(end, Some(DocEnd::NotToml)));
-    Ok(())
-}
+# keys of a lane
+at lanes[1]
+with [*]
+{} => Missing @.transactions 0
+{transactions = 1} => WrongKind @.transactions 0
+{transactions = {}} => WrongKind @.transactions 0
+{transactions = [1]} => WrongKind @.transactions 0
+{transactions = []} => BadValue @.transactions 0
+{transactions = [{}]} => Missing @.transactions[1].type 0
+{transactions = [], zz = 1} => UnknownKey @ 2
+{aa = 1} => UnknownKey @ 1
+{type = 1, transactions = 1} => UnknownKey @ 2
+
+# a later lane
+at lanes[3]
+with {transactions = [{type = 0, amount = 0}]}, {transactions = [{type = 0, amount = 0}]}, *, {}
+{} => Missing @.transactions 0
+{transactions = []} => BadValue @.transactions 0
+{zz = 1} => UnknownKey @ 1
+
+# how many transactions
+for document
+with version = 1\nlanes = [{transactions = [*]}]
+<64:{type = 0, amount = 0, cards = [{kind = 'A', uid = '01020304'}]},> => read
+<65:{},> => TooMany lanes[1].transactions 65
+
+# turns of no lane
+for document
+with version = 1\nlanes = [<1:{transactions = [{type = 0, amount = 0}]},>]\nturns = *
+[2] => BadValue turns[1] 2
+for document
+with version = 1\nlanes = [<2:{transactions = [{type = 0, amount = 0}]},>]\nturns = *
+[0] => BadValue turns[1] 0
+[1, 2, 3, 0] => BadValue turns[3] 3
+[2, -1] => BadValue turns[2] -1
+[257] => BadValue turns[1] 257
+[4294967297] => BadValue turns[1] 4294967297
+[<4097:1,>] => TooMany turns 4097
+[<4097:0,>] => TooMany turns 4097
+
+# kinds of the turns
+1 => WrongKind turns 0
+'1' => WrongKind turns 0
+true => WrongKind turns 0
+{} => WrongKind turns 0
+['1'] => WrongKind turns 0
+[1, 2, '1'] => WrongKind turns 0
+[0, 1.0] => WrongKind turns 0
+[true] => WrongKind turns 0
+[[1]] => WrongKind turns 0
+[{}] => WrongKind turns 0
+[<4097:'',>] => WrongKind turns 0
+for document
+with version = 1\nlanes = [<7:{transactions = [{type = 0, amount = 0}]},>]\nturns = *
+[8] => BadValue turns[1] 8
+for document
+with version = 1\nlanes = [<8:{transactions = [{type = 0, amount = 0}]},>]\nturns = *
+[8, 9] => BadValue turns[2] 9
+"#;

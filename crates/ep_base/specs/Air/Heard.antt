@@ -75,39 +75,39 @@ pub data RoundEnd : Type 0 where
   Found : (card : Activated) → RoundEnd
 
 -- A poll round goes on in a state, or ends (this project's profile).
-pub data Turn (S : Type 0) : Type 0 where
-  Goes : (state : S) → Turn S
-  Ends : (ending : RoundEnd) → Turn S
+pub data RoundTurn (S : Type 0) : Type 0 where
+  Goes : (state : S) → RoundTurn S
+  Ends : (ending : RoundEnd) → RoundTurn S
 
 -- The state in which a round goes on, if it does (this project's own).
-abbrev pub place_of : {S : Type 0} → Turn S → Option S
+abbrev pub place_of : {S : Type 0} → RoundTurn S → Option S
 place_of (Goes s) = Some s
 place_of (Ends e) = None
 
 -- The end of a round that doesn't go on (this project's own).
-abbrev pub end_of : {S : Type 0} → Turn S → Option RoundEnd
+abbrev pub end_of : {S : Type 0} → RoundTurn S → Option RoundEnd
 end_of (Goes s) = None
 end_of (Ends e) = Some e
 
 -- An awaited answer: what it says, or how it ends the round (this project's profile).
-pub data Awaited : Type 0 where
-  Says : (message : List ℕ) → Awaited
-  Fails : (ending : RoundEnd) → Awaited
+pub data RoundAnswer : Type 0 where
+  Says : (message : List ℕ) → RoundAnswer
+  Fails : (ending : RoundEnd) → RoundAnswer
 
 -- What a frame of the awaited wave says once it is opened: one that isn't good ends the round (this project's profile).
-abbrev pub says_opened : Option (List ℕ) → Awaited
+abbrev pub says_opened : Option (List ℕ) → RoundAnswer
 says_opened (Some message) = Says message
 says_opened None = Fails Broken
 
 -- An awaited answer of this wave: Overlap is a collision, and all else that isn't a good frame of the wave is broken (this project's profile).
-abbrev pub awaited : Wave → Heard → Awaited
+abbrev pub awaited : Wave → Heard → RoundAnswer
 awaited wave Silence = Fails Broken
 awaited wave Noise = Fails Broken
 awaited wave Overlap = Fails Collision
 awaited wave (Frame w bytes) = if same_wave w wave then says_opened (opened wave bytes) else Fails Broken
 
 -- How a round goes on after an awaited answer (this project's profile).
-abbrev pub on_answer : {S : Type 0} → (List ℕ → Turn S) → Awaited → Turn S
+abbrev pub on_answer : {S : Type 0} → (List ℕ → RoundTurn S) → RoundAnswer → RoundTurn S
 on_answer next (Says message) = next message
 on_answer next (Fails e) = Ends e
 

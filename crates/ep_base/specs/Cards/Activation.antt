@@ -17,8 +17,8 @@ abbrev pub waiting : ℕ → ℕ
 waiting nibble = if nibble == 15 then 4 else nibble
 
 -- How many interface bytes T0 announces: TA by 10h, TB by 20h, TC by 40h (ISO/IEC 14443-4).
-abbrev pub announced : ℕ → ℕ
-announced t0 = bit t0 16 + bit t0 32 + bit t0 64
+abbrev pub interface_bytes : ℕ → ℕ
+interface_bytes t0 = bit t0 16 + bit t0 32 + bit t0 64
 
 -- The frame waiting time integer of an ATS with this T0: TB's upper nibble, and 4 without TB (ISO/IEC 14443-4).
 abbrev pub ats_fwi : List ℕ → ℕ → ℕ
@@ -31,7 +31,7 @@ ats bytes =
     if length bytes == 0 then Err ats_faults.LengthWrong
     else (if not (slice_index bytes 0 == length bytes) then Err ats_faults.LengthWrong
     else (if length bytes == 1 then Ok (record { fsc = frame_size 2; fwi = 4 })
-    else (if nat_lt (length bytes) (2 + announced (slice_index bytes 1)) then Err ats_faults.Cut
+    else (if nat_lt (length bytes) (2 + interface_bytes (slice_index bytes 1)) then Err ats_faults.Cut
     else Ok (record { fsc = frame_size (slice_index bytes 1 % 16); fwi = ats_fwi bytes (slice_index bytes 1) }))))
 
 -- What an ATQB says: 50h, PUPI, four bytes of application data, and three of protocol info, of which the second has the

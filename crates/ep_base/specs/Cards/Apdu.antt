@@ -7,7 +7,7 @@ use Rattle.ep_base.specs.declared.limits.TheConstants.{COMMAND}
 abbrev pub same_bytes : List ℕ → List ℕ → Bool
 same_bytes xs ys = pointwise nat_eq xs ys
 
--- At most 261 bytes: 4; or 5; or, with byte 5 as Lc from 1 up, 5 + Lc or 6 + Lc.
+-- At most `COMMAND` bytes: 4; or 5; or, with byte 5 as Lc from 1 up, 5 + Lc or 6 + Lc.
 unfoldable pub is_command : List ℕ → Bool
 is_command bytes =
     nat_le (length bytes) COMMAND

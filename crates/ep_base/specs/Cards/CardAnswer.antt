@@ -1,11 +1,11 @@
 -- What a card image answers to a command (this project's own).
-use Rattle.std.specs.Prelude.{ℕ, ◌+◌, ◌-◌, ◌≤◌, ◌<◌, ◌&&◌, min, nat_lt, nat_eq, Bool, true, false, List, [], ◌∷◌, ◌++◌, length, slice_get, slice_set, position, unwrap_or, All, if◌then◌else◌}
+use Rattle.std.specs.Prelude.{ℕ, ◌+◌, ◌-◌, ◌≤◌, ◌<◌, ◌&&◌, min, nat_lt, nat_eq, Bool, List, [], ◌∷◌, length, slice_get, slice_set, position, unwrap_or, All, if◌then◌else◌}
 use Rattle.std.specs.declared.option.Option.{Option}
 use Rattle.std.specs.Prelude.{Some, None}
 use Rattle.std.specs.Option.{ForSome}
 use Rattle.std.specs.List.{starts_with}
 use Rattle.ep_base.specs.Cards.Apdu.{same_bytes, command_data, ppse_name, is_9000}
-use Rattle.ep_base.specs.declared.limits.TheConstants.{COMMAND, RESPONSE}
+use Rattle.ep_base.specs.declared.limits.TheConstants.{ANSWER_WAITS, ANSWERS, APPLICATIONS, COMMAND, RESPONSE, RULES}
 
 -- A response, how many S(WTX) come before it, and their WTXM.
 pub record Answered : Type 0 where
@@ -158,7 +158,7 @@ pub record IsResponse (response : List ℕ) : Type 0 where
 
 pub record AreAnswers (a : Answers) : Type 0 where
   pub each : All IsResponse a.list
-  pub few : length a.list ≤ 16
+  pub few : length a.list ≤ ANSWERS
   pub given : a.used ≤ length a.list
 
 pub record IsRule (r : Rule) : Type 0 where
@@ -166,7 +166,7 @@ pub record IsRule (r : Rule) : Type 0 where
   pub prefix_most : length r.prefix ≤ COMMAND
   pub answers : AreAnswers r.responses
   pub some : 0 < length r.responses.list
-  pub waits : r.wtx ≤ 8
+  pub waits : r.wtx ≤ ANSWER_WAITS
   pub wtxm_least : 1 ≤ r.wtxm
   pub wtxm_most : r.wtxm ≤ 59
 
@@ -175,20 +175,20 @@ pub record IsApp (a : App) : Type 0 where
   pub name_most : length a.name ≤ 16
   pub answers : AreAnswers a.selects
   pub some : 0 < length a.selects.list
-  pub waits : a.wtx ≤ 8
+  pub waits : a.wtx ≤ ANSWER_WAITS
   pub wtxm_least : 1 ≤ a.wtxm
   pub wtxm_most : a.wtxm ≤ 59
   pub each_rule : All IsRule a.rules
-  pub few_rules : length a.rules ≤ 32
+  pub few_rules : length a.rules ≤ RULES
 
 pub record IsImage (i : Image) : Type 0 where
   pub answers : AreAnswers i.ppse
   pub each_app : All IsApp i.apps
-  pub few_apps : length i.apps ≤ 16
+  pub few_apps : length i.apps ≤ APPLICATIONS
   pub place : ForSome i.selected (λ n. n < length i.apps)
 
 pub record IsAnswer (a : Answered) : Type 0 where
   pub response : IsResponse a.response
-  pub waits : a.wtx ≤ 8
+  pub waits : a.wtx ≤ ANSWER_WAITS
   pub wtxm_least : 1 ≤ a.wtxm
   pub wtxm_most : a.wtxm ≤ 59

@@ -1,9 +1,9 @@
 -- The perfect channel with one card, as a transport (this project's own).
-use Rattle.std.specs.Prelude.{◌≡◌, ℕ, Bool, true, false, nat_lt, List, [], ◌∷◌, ◌++◌, length, if◌then◌else◌}
+use Rattle.std.specs.Prelude.{◌≡◌, ℕ, true, false, nat_lt, List, [], ◌∷◌, ◌++◌, length, if◌then◌else◌}
 use Rattle.ep_base.specs.Air.Heard.{Activated}
 use Rattle.ep_base.specs.Cards.Apdu.{is_command}
 use Rattle.ep_base.specs.Cards.CardAnswer.{Image, card_answer, deselected}
-use Rattle.ep_base.specs.Poll.Transport.{TransportSteps, Presentation, Here, Reply, Answered, Lost}
+use Rattle.ep_base.specs.Poll.Transport.{TransportSteps, Here, Reply, Answered, Lost}
 use Rattle.ep_base.specs.Cards.Images.{Rules}
 
 -- A card at the end of the perfect channel: what it is, its image, what it executed, and how many records its log has room for.

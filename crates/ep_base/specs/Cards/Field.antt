@@ -10,7 +10,7 @@ use Rattle.ep_base.specs.Cards.CardAnswer.{Image, deselected}
 use Rattle.ep_base.specs.Cards.TypeA.{APlan, AState, Idle, Halted, a_card}
 use Rattle.ep_base.specs.Cards.TypeB.{BPlan, BState, BIdle, b_card}
 use Rattle.ep_base.specs.Air.Fates.{Way, Fate, Air, next_fate, later}
-use Rattle.ep_base.specs.Air.Fates as legs
+use Rattle.ep_base.specs.Air.Fates as ways
 use Rattle.ep_base.specs.Link.Wire.{Party, Heeded, takes_frame, comes_down, comes_back}
 use Rattle.ep_base.specs.declared.limits.TheConstants.{FRAME}
 
@@ -18,7 +18,7 @@ use Rattle.ep_base.specs.declared.limits.TheConstants.{FRAME}
 abbrev pub no_party : Party
 no_party = record {
   kind = kinds.A;
-  fsd = 256;
+  fsd = FRAME;
   card = fresh_card;
   image = record { number = 0; ppse = record { list = []; used = 0 }; apps = []; selected = None };
 }
@@ -56,17 +56,17 @@ pub record Placed : Type 0 where
   pub party : Party
 
 -- A card after a frame, what it executed, and its answer (this project's own).
-pub record Told : Type 0 where
+pub record CardAfter : Type 0 where
   pub card : Placed
   pub executed : List (ℕ × List ℕ)
   pub answer : Option Sent
 
 -- A card that does nothing (this project's own).
-abbrev pub untouched : Placed → Told
+abbrev pub untouched : Placed → CardAfter
 untouched p = record { card = p; executed = []; answer = None }
 
 -- In the block protocol: S(DESELECT) ends it (ISO/IEC 14443-4).
-abbrev pub by_link : Placed → Heeded → Told
+abbrev pub by_link : Placed → Heeded → CardAfter
 by_link p h = record {
   card = record { present = p.present; outside = (if is_halted h.party.card then outside_halted p.outside else p.outside); party = h.party };
   executed = h.executed;
@@ -78,7 +78,7 @@ abbrev pub opens_link : Party → ℕ → Party
 opens_link p fsd = record { kind = p.kind; fsd = fsd; card = fresh_card; image = p.image }
 
 -- What a card does with a frame, by the reply of its rules outside the block protocol (ISO/IEC 14443-3, -4).
-abbrev pub by_reply : Placed → Outside → Wave → List ℕ → CardHear → Told
+abbrev pub by_reply : Placed → Outside → Wave → List ℕ → CardHear → CardAfter
 by_reply p outside wave bytes Mute = record { card = record { present = p.present; outside = outside; party = p.party }; executed = []; answer = None }
 by_reply p outside wave bytes (Sends f) = record { card = record { present = p.present; outside = outside; party = p.party }; executed = []; answer = Some f }
 by_reply p outside wave bytes (Opens f fsd) =
@@ -86,11 +86,11 @@ by_reply p outside wave bytes (Opens f fsd) =
 by_reply p outside wave bytes Passes = by_link p (takes_frame p.party wave bytes)
 
 -- A present card hears a frame (ISO/IEC 14443-3, -4).
-abbrev pub hears_frame : Placed → Wave → List ℕ → Told
+abbrev pub hears_frame : Placed → Wave → List ℕ → CardAfter
 hears_frame p wave bytes = by_reply p (outside_after wave bytes p.outside) wave bytes (outside_reply wave bytes p.outside)
 
 -- A card hears a frame where it is present and the log has a free record at that moment (this project's own).
-abbrev pub one_hears : ℕ → Wave → List ℕ → List (ℕ × List ℕ) → Placed → Told
+abbrev pub one_hears : ℕ → Wave → List ℕ → List (ℕ × List ℕ) → Placed → CardAfter
 one_hears room wave bytes log p = if p.present && nat_lt (length log) room then hears_frame p wave bytes else untouched p
 
 -- The cards after a frame, the log then, and what each of them sent, in the order of their numbers (this project's own).
@@ -105,7 +105,7 @@ maybe_answer None fs = fs
 maybe_answer (Some f) fs = f ∷ fs
 
 -- One card, and then the others (this project's own).
-abbrev pub and_then : Told → CardsHeard → CardsHeard
+abbrev pub and_then : CardAfter → CardsHeard → CardsHeard
 and_then t h = record { cards = t.card ∷ h.cards; log = h.log; answers = maybe_answer t.answer h.answers }
 
 -- The cards hear the frame one after another (this project's own).
@@ -135,10 +135,10 @@ left_by (p ∷ ps) = record { present = false; outside = p.outside; party = p.pa
 
 -- Whether the cards leave with this fate (this project's own).
 abbrev pub leaves : Way → Bool
-leaves legs.Passes = false
-leaves legs.Loses = false
-leaves (legs.Bursts start mask) = false
-leaves legs.Leaves = true
+leaves ways.Passes = false
+leaves ways.Loses = false
+leaves (ways.Bursts start mask) = false
+leaves ways.Leaves = true
 
 -- Whether the cards leave in an exchange of this fate (this project's own).
 abbrev pub away : Fate → Bool
@@ -156,15 +156,15 @@ pub record Field : Type 0 where
   pub exchanges : ℕ
 
 -- Whether a number is in a list (this project's own).
-abbrev pub names : ℕ → List ℕ → Bool
-names number [] = false
-names number (n ∷ ns) = (number == n) || names number ns
+abbrev pub has_number : ℕ → List ℕ → Bool
+has_number number [] = false
+has_number number (n ∷ ns) = (number == n) || has_number number ns
 
 -- Which cards are present in a round: none once they are gone, all of them without a list, else those of the list's next element (this project's own).
 abbrev pub is_present : Bool → List (List ℕ) → ℕ → Bool
 is_present true presence number = false
 is_present false [] number = true
-is_present false (p ∷ ps) number = names number p
+is_present false (p ∷ ps) number = has_number number p
 
 -- The presence of the rounds after the next one: the last element holds for all of them (this project's own).
 abbrev pub next_presence : List (List ℕ) → List (List ℕ)

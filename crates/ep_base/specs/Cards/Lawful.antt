@@ -33,9 +33,9 @@ AtLevelOf uid Protocol = Unit {0}
 AtLevelOf uid Halted = Unit {0}
 
 -- A card stands where the frames that it heard can have led it (ISO/IEC 14443-3).
-abbrev pub Stands : Outside → Type 0
-Stands (OfA plan state) = AtLevelOf plan.uid state
-Stands (OfB plan state) = Unit {0}
+abbrev pub IsReachable : Outside → Type 0
+IsReachable (OfA plan state) = AtLevelOf plan.uid state
+IsReachable (OfB plan state) = Unit {0}
 
 -- A card's kind (ISO/IEC 14443-3).
 abbrev pub kind_of : Outside → CardKind
@@ -51,7 +51,7 @@ id_of (OfB plan state) = plan.pupi
 -- limits (this project's own).
 pub record IsPlaced (p : Placed) : Type 0 where
   pub formed : IsFormed p.outside
-  pub stands : Stands p.outside
+  pub stands : IsReachable p.outside
   pub kind : p.party.kind ≡ kind_of p.outside
   pub image : IsImage p.party.image
 
@@ -66,14 +66,14 @@ names [] = []
 names (p ∷ ps) = (kind_of p.outside, id_of p.outside) ∷ names ps
 
 -- None of these has this kind and this identifier (this project's own).
-abbrev pub IsApart : CardKind × List ℕ → List (CardKind × List ℕ) → Type 0
-IsApart n [] = Unit {0}
-IsApart n (m ∷ ms) = (n.0 ≡ m.0 → n.1 ≢ m.1) × IsApart n ms
+abbrev pub IsUnlike : CardKind × List ℕ → List (CardKind × List ℕ) → Type 0
+IsUnlike n [] = Unit {0}
+IsUnlike n (m ∷ ms) = (n.0 ≡ m.0 → n.1 ≢ m.1) × IsUnlike n ms
 
 -- No two of one kind have the same UID or PUPI (this project's own).
 abbrev pub AreApart : List (CardKind × List ℕ) → Type 0
 AreApart [] = Unit {0}
-AreApart (n ∷ ns) = IsApart n ns × AreApart ns
+AreApart (n ∷ ns) = IsUnlike n ns × AreApart ns
 
 -- A field of a document's cards, no two of one kind with the same identifier, under bursts of at most sixteen bits (this project's own).
 pub record Lawful (f : Field) : Type 0 where

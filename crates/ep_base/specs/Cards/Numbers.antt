@@ -1,5 +1,5 @@
 -- The numbers of the cards of a field, and the images that have them (this project's own).
-use Rattle.std.specs.Prelude.{◌≡◌, ◌≢◌, ℕ, List, [], ◌∷◌, None}
+use Rattle.std.specs.Prelude.{◌≡◌, ◌≢◌, ℕ, List, [], ◌∷◌}
 use Rattle.ep_base.specs.Air.Heard.{Activated}
 use Rattle.ep_base.specs.Cards.CardAnswer.{Image}
 use Rattle.ep_base.specs.Cards.Field.{Placed}

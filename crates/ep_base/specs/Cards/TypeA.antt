@@ -9,7 +9,7 @@ use Rattle.ep_base.specs.declared.activation.Ats.{Ats}
 use Rattle.ep_base.specs.declared.activation.AtsFault.{AtsFault}
 use Rattle.ep_base.specs.Air.Frame.{opened}
 use Rattle.ep_base.specs.Air.FrameSize.{frame_size}
-use Rattle.ep_base.specs.Air.Heard.{framed, same_wave, Ask, asks, Heard, awaited, on_answer, Turn, Goes, Ends, Unsupported, Broken, Found, CardHear, Mute, Sends, Opens, Passes}
+use Rattle.ep_base.specs.Air.Heard.{framed, same_wave, Ask, asks, Heard, awaited, on_answer, RoundTurn, Goes, Ends, Unsupported, Broken, Found, CardHear, Mute, Sends, Opens, Passes}
 use Rattle.ep_base.specs.Cards.Activation.{ats, bit}
 
 -- WUPA (ISO/IEC 14443-3).
@@ -52,13 +52,13 @@ abbrev pub continues : ℕ → List ℕ → Bool
 continues level part = nat_lt level 3 && (slice_index part 0 == 0x88)
 
 -- After RATS: the card is activated, or the round is broken (this project's profile).
-abbrev pub after_ats : List ℕ → Result Ats AtsFault → Turn AStage
+abbrev pub after_ats : List ℕ → Result Ats AtsFault → RoundTurn AStage
 after_ats uid (Ok a) = Ends (Found (record { kind = kinds.A; id = uid; fsc = a.fsc; fwi = a.fwi }))
 after_ats uid (Err e) = Ends Broken
 
 -- After a SAK. Its bit 04h has to be set just where the level tells of another one, for which is asked next; else bit 20h
 -- says that the card follows ISO/IEC 14443-4 (ISO/IEC 14443-3; how the round ends otherwise: this project's profile).
-abbrev pub after_sak : ℕ → List ℕ → List ℕ → ℕ → Turn AStage
+abbrev pub after_sak : ℕ → List ℕ → List ℕ → ℕ → RoundTurn AStage
 after_sak level uid part sak =
     if bit sak 4 == 1
     then (if continues level part then Goes (Level (level + 1) (uid ++ take 3 (drop 1 part))) else Ends Broken)
@@ -66,7 +66,7 @@ after_sak level uid part sak =
     else (if bit sak 32 == 1 then Goes (Complete (uid ++ take 4 part)) else Ends Unsupported))
 
 -- After an awaited answer, by what it says (ISO/IEC 14443-3, -4).
-abbrev pub a_says : AStage → List ℕ → Turn AStage
+abbrev pub a_says : AStage → List ℕ → RoundTurn AStage
 a_says Woken message = if length message == 2 then Goes (Level 1 []) else Ends Broken
 a_says (Level level uid) message = if is_level message then Goes (Select level uid message) else Ends Broken
 a_says (Select level uid part) message =
@@ -81,7 +81,7 @@ a_wave (Select level uid part) = A
 a_wave (Complete uid) = A
 
 -- How a round goes on, or ends, by what is heard (this project's profile).
-abbrev pub a_hears : AStage → Heard → Turn AStage
+abbrev pub a_hears : AStage → Heard → RoundTurn AStage
 a_hears stage heard = on_answer (a_says stage) (awaited (a_wave stage) heard)
 
 -- A card of Type A: its UID of 4, 7 or 10 bytes, its last SAK, the code of the frames that it takes, its frame waiting

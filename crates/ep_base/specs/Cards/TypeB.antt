@@ -9,7 +9,7 @@ use Rattle.ep_base.specs.declared.activation.Atqb.{Atqb}
 use Rattle.ep_base.specs.declared.activation.AtqbFault.{AtqbFault}
 use Rattle.ep_base.specs.Air.Frame.{opened}
 use Rattle.ep_base.specs.Air.FrameSize.{frame_size}
-use Rattle.ep_base.specs.Air.Heard.{framed, same_wave, Ask, asks, Heard, awaited, on_answer, Turn, Goes, Ends, Unsupported, Broken, Found, CardHear, Mute, Sends, Opens, Passes}
+use Rattle.ep_base.specs.Air.Heard.{framed, same_wave, Ask, asks, Heard, awaited, on_answer, RoundTurn, Goes, Ends, Unsupported, Broken, Found, CardHear, Mute, Sends, Opens, Passes}
 use Rattle.ep_base.specs.Cards.Activation.{atqb}
 
 -- WUPB for all application families and one slot (ISO/IEC 14443-3).
@@ -31,24 +31,24 @@ abbrev pub b_asks : ℕ → BStage → Ask
 b_asks fsdi stage = asks B (attrib_of stage.pupi fsdi)
 
 -- After ATQB: ATTRIB is sent to a card that follows ISO/IEC 14443-4 (this project's profile).
-abbrev pub after_atqb : Result Atqb AtqbFault → Turn BStage
+abbrev pub after_atqb : Result Atqb AtqbFault → RoundTurn BStage
 after_atqb (Ok a) = if a.iso4 then Goes (record { pupi = a.pupi; fsc = a.fsc; fwi = a.fwi }) else Ends Unsupported
 after_atqb (Err e) = Ends Broken
 
 -- How a round goes on, or ends, by what is heard after WUPB (this project's profile).
-abbrev pub b_found : Heard → Turn BStage
+abbrev pub b_found : Heard → RoundTurn BStage
 b_found heard = on_answer (λ message. after_atqb (atqb message)) (awaited B heard)
 
 -- After ATTRIB: the card is activated by an answer of at least one byte whose low nibble is CID 0 (ISO/IEC 14443-3; that
 -- another one breaks the round: this project's profile).
-abbrev pub b_says : BStage → List ℕ → Turn BStage
+abbrev pub b_says : BStage → List ℕ → RoundTurn BStage
 b_says stage message =
     if nat_lt 0 (length message) && (slice_index message 0 % 16 == 0)
     then Ends (Found (record { kind = kinds.B; id = stage.pupi; fsc = stage.fsc; fwi = stage.fwi }))
     else Ends Broken
 
 -- How a round ends by what is heard after ATTRIB (this project's profile).
-abbrev pub b_hears : BStage → Heard → Turn BStage
+abbrev pub b_hears : BStage → Heard → RoundTurn BStage
 b_hears stage heard = on_answer (b_says stage) (awaited B heard)
 
 -- A card of Type B: its PUPI, its application data, the code of the frames that it takes, its frame waiting time integer,

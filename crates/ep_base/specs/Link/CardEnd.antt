@@ -6,14 +6,14 @@ use Rattle.ep_base.specs.Cards.CardAnswer.{Answered}
 use Rattle.ep_base.specs.declared.limits.TheConstants.{COMMAND}
 
 -- What a card does with commands: which bytes are one, and the answer to the last of those that it executed.
-pub record Image : Type 0 where
+pub record CommandRules : Type 0 where
   pub is_command : List ℕ → Bool
   pub answer : List (List ℕ) → Answered
 
 -- What is left to send: parts; or an S(WTX) was sent, so many more come, and then these parts.
-pub data Left : Type 0 where
-  Parts : List (List ℕ) → Left
-  Waits : (wtx wtxm : ℕ) (first : List ℕ) (others : List (List ℕ)) → Left
+pub data Unsent : Type 0 where
+  Parts : List (List ℕ) → Unsent
+  Waits : (wtx wtxm : ℕ) (first : List ℕ) (others : List (List ℕ)) → Unsent
 
 -- The block number, the block that was sent last in this link, the bytes of the command that came so far, what is left to send, and the
 -- commands that were executed.
@@ -21,7 +21,7 @@ pub record Card : Type 0 where
   pub number : Bool
   pub last : Option Block
   pub taken : List ℕ
-  pub left : Left
+  pub left : Unsent
   pub log : List (List ℕ)
 
 -- A card and its answer.
@@ -36,7 +36,7 @@ mute card = record { card = card; block = None }
 abbrev pub again : Card → Answer
 again card = record { card = card; block = card.last }
 
-abbrev pub sends : Block → Bool → List ℕ → Left → List (List ℕ) → Answer
+abbrev pub sends : Block → Bool → List ℕ → Unsent → List (List ℕ) → Answer
 sends block number taken left log =
     record { card = record { number = number; last = Some block; taken = taken; left = left; log = log }; block = Some block }
 
@@ -53,13 +53,13 @@ abbrev pub answers : ℕ → Bool → Answered → List (List ℕ) → Answer
 answers frame number a log = sends_first number a.wtx a.wtxm (cut (frame - 3) a.response) log
 
 -- The last part of a command came. Bytes that are no command are answered without execution.
-abbrev pub executes : ℕ → Image → Bool → List ℕ → List (List ℕ) → Answer
+abbrev pub executes : ℕ → CommandRules → Bool → List ℕ → List (List ℕ) → Answer
 executes frame image number bytes log =
     if image.is_command bytes
     then answers frame number (image.answer (log ++ bytes ∷ [])) (log ++ bytes ∷ [])
     else sends_part number (0x67 ∷ 0x00 ∷ []) [] log
 
-abbrev pub on_part : ℕ → Image → Card → Bool → List ℕ → Answer
+abbrev pub on_part : ℕ → CommandRules → Card → Bool → List ℕ → Answer
 on_part frame image card true bytes = sends (RAck (other card.number)) (other card.number) bytes (Parts []) card.log
 on_part frame image card false bytes = executes frame image (other card.number) bytes card.log
 
@@ -67,25 +67,25 @@ abbrev pub dropped : Card → Card
 dropped card = record { number = card.number; last = card.last; taken = []; left = Parts []; log = card.log }
 
 -- R(ACK) with another number.
-abbrev pub on_ack : Left → Card → Answer
-on_ack (Parts []) card = mute card
-on_ack (Parts (part ∷ others)) card = sends_part (other card.number) part others card.log
-on_ack (Waits wtx wtxm first others) card = mute card
+abbrev pub card_on_ack : Unsent → Card → Answer
+card_on_ack (Parts []) card = mute card
+card_on_ack (Parts (part ∷ others)) card = sends_part (other card.number) part others card.log
+card_on_ack (Waits wtx wtxm first others) card = mute card
 
-abbrev pub on_wtx : Left → Card → Answer
-on_wtx (Parts parts) card = mute card
-on_wtx (Waits zero wtxm first others) card = sends_part card.number first others card.log
-on_wtx (Waits (suc wtx) wtxm first others) card = sends (Wtx 0 wtxm) card.number [] (Waits wtx wtxm first others) card.log
+abbrev pub card_on_wtx : Unsent → Card → Answer
+card_on_wtx (Parts parts) card = mute card
+card_on_wtx (Waits zero wtxm first others) card = sends_part card.number first others card.log
+card_on_wtx (Waits (suc wtx) wtxm first others) card = sends (Wtx 0 wtxm) card.number [] (Waits wtx wtxm first others) card.log
 
 -- The card's rules, for a card that cuts its responses for frames of this size.
-abbrev pub card_hears : ℕ → Image → Card → Block → Answer
+abbrev pub card_hears : ℕ → CommandRules → Card → Block → Answer
 card_hears frame image card (I k ch inf) =
     if nat_le (length (card.taken ++ inf)) COMMAND then on_part frame image card ch (card.taken ++ inf) else mute (dropped card)
-card_hears frame image card (RAck k) = if same k card.number then again card else on_ack card.left card
+card_hears frame image card (RAck k) = if same k card.number then again card else card_on_ack card.left card
 card_hears frame image card (RNak k) =
     if same k card.number then again card else sends (RAck card.number) card.number card.taken card.left card.log
 card_hears frame image card Deselect = sends Deselect card.number [] (Parts []) card.log
-card_hears frame image card (Wtx p m) = on_wtx card.left card
+card_hears frame image card (Wtx p m) = card_on_wtx card.left card
 
 -- After S(DESELECT) the card is halted: that block is then its last (ISO/IEC 14443-4; that nothing moves it afterwards is this project's profile).
 abbrev pub is_deselect : Option Block → Bool

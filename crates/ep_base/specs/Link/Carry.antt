@@ -1,17 +1,17 @@
 -- One command over an open link, carried by a medium: the frames that the reader's end asks, each answered by the medium (this project's own).
-use Rattle.std.specs.Prelude.{◌≡◌, ◌⊎◌, ℕ, ◌+◌, ◌≤◌, true, false, Bool, List, [], ◌∷◌, ◌++◌, length, Option, Some, None}
+use Rattle.std.specs.Prelude.{◌≡◌, ◌⊎◌, ℕ, ◌+◌, ◌≤◌, true, false, Bool, List, [], ◌∷◌, ◌++◌, length, Option, Some}
 use Rattle.ep_base.specs.Air.Heard.{Heard, wave_of_kind}
 use Rattle.ep_base.specs.Air.Frame.{sealed}
 use Rattle.ep_base.specs.Air.Medium.{MediumSteps, told}
-use Rattle.ep_base.specs.Link.Block.{Block, Deselect, other, is_bad, count}
-use Rattle.ep_base.specs.Link.ReaderEnd.{Reader, Turn, Asks, Gives, Spends, Breaks, Idle, asked, reader_hears, begin}
+use Rattle.ep_base.specs.Link.Block.{Block, other, is_bad, count}
+use Rattle.ep_base.specs.Link.ReaderEnd.{Reader, ReaderTurn, Asks, Gives, Spends, Breaks, Idle, asked, reader_hears, begin}
 use Rattle.ep_base.specs.Link.CardEnd.{Card, Parts, is_halted}
 use Rattle.ep_base.specs.Link.Spelling.{spelled}
 use Rattle.ep_base.specs.Link.LinkFrames.{LinkSetting, wait_of, heard_block}
 use Rattle.ep_base.specs.Cards.Apdu.{is_command}
 use Rattle.ep_base.specs.Cards.CardAnswer.{IsImage, card_answer}
 use Rattle.ep_base.specs.Air.Fates.{AreFates}
-use Rattle.ep_base.specs.Link.Wire.{Party, Wire, wire_send, wire}
+use Rattle.ep_base.specs.Link.Wire.{Wire, wire_send, wire}
 use Rattle.ep_base.specs.declared.limits.TheConstants.{FRAME}
 
 -- The medium is sent a block of this link in a state, and answers so (ISO/IEC 14443-4).
@@ -19,11 +19,11 @@ abbrev pub SendsBlock : {S : Type 0} → MediumSteps S → LinkSetting → S →
 SendsBlock steps set s b heard t = steps.sends s (wave_of_kind set.kind) (sealed (wave_of_kind set.kind) (spelled b)) (wait_of set.fwi b) heard t
 
 -- The reader's turn after a hearing (ISO/IEC 14443-4).
-abbrev pub turn_on : LinkSetting → Reader → Heard → Turn
+abbrev pub turn_on : LinkSetting → Reader → Heard → ReaderTurn
 turn_on set r h = reader_hears set.frames.reader r (heard_block set.kind set.frames.reader h)
 
 -- A turn that asks goes on with the rest of the hearings, and any other is the last one (this project's own).
-abbrev pub GoesOn : {S : Type 0} → (Reader → S → Type 0) → Turn → List Heard → S → Turn → S → Type 0
+abbrev pub GoesOn : {S : Type 0} → (Reader → S → Type 0) → ReaderTurn → List Heard → S → ReaderTurn → S → Type 0
 GoesOn next (Asks r) hs s turn t = next r s
 GoesOn next (Gives response r) hs s turn t = (hs ≡ []) × (turn ≡ Gives response r) × (t ≡ s)
 GoesOn next (Spends r) hs s turn t = (hs ≡ []) × (turn ≡ Spends r) × (t ≡ s)
@@ -31,7 +31,7 @@ GoesOn next (Breaks r) hs s turn t = (hs ≡ []) × (turn ≡ Breaks r) × (t �
 
 -- From a reader that asks, these hearings, each the medium's answer to the block that is asked then, lead to this turn and this state of the
 -- medium (ISO/IEC 14443-4).
-abbrev pub Follows : {S : Type 0} → MediumSteps S → LinkSetting → List Heard → Reader → S → Turn → S → Type 0
+abbrev pub Follows : {S : Type 0} → MediumSteps S → LinkSetting → List Heard → Reader → S → ReaderTurn → S → Type 0
 Follows steps set [] r s turn t = (turn ≡ Asks r) × (t ≡ s)
 Follows {S = S} steps set (h ∷ hs) r s turn t =
     (u : S) × SendsBlock steps set s (asked r) (Some h) u × GoesOn (λ q v. Follows steps set hs q v turn t) (turn_on set r h) hs u turn t
@@ -75,7 +75,7 @@ pub record Executed (w : Wire) (command : List ℕ) (t : Wire) : Type 0 where
 -- What a command comes to: answered, it was executed exactly once and has its card's own response, and both ends are at rest again; spent, three
 -- hearings were bad since the reader's last toggle, and it was executed at most once; no block is ever outside the rules; and at every moment
 -- before its end it was executed at most once (this project's own).
-abbrev pub OnceSo : Wire → List ℕ → Turn → Wire → Type 0
+abbrev pub OnceSo : Wire → List ℕ → ReaderTurn → Wire → Type 0
 OnceSo w command (Asks r) t = AtMostOnce w command t
 OnceSo w command (Gives response r) t =
     (response ≡ (card_answer w.party.image command).0.response) × Executed w command t × AtRest r t.party.card
@@ -84,7 +84,7 @@ OnceSo w command (Breaks r) t = ⊥
 
 -- Whatever becomes of the frames, a command over an open link is executed exactly once, or at most once where the link is spent (this project's own).
 abbrev pub CarriedOnce : Type 0
-CarriedOnce = (set : LinkSetting) (w : Wire) (r : Reader) (command : List ℕ) (hs : List Heard) (turn : Turn) (t : Wire) →
+CarriedOnce = (set : LinkSetting) (w : Wire) (r : Reader) (command : List ℕ) (hs : List Heard) (turn : ReaderTurn) (t : Wire) →
     OfLink set w → AtRest r w.party.card → is_command command ≡ true →
     Follows (told wire) set hs (begin set.frames.card command r) w turn t → OnceSo w command turn t
 

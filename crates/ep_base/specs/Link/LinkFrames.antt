@@ -1,8 +1,7 @@
 -- The block protocol in frames: what a block looks like in the air, and what a frame says as a block (ISO/IEC 14443-4, block format and frame
 -- waiting time).
-use Rattle.std.specs.Prelude.{ℕ, ◌*◌, ◌^◌, ◌==◌, min, nat_le, Bool, true, false, if◌then◌else◌, List, [], ◌∷◌, ◌++◌, length, Option, Some, None}
+use Rattle.std.specs.Prelude.{ℕ, ◌*◌, ◌^◌, min, nat_le, false, if◌then◌else◌, List, [], length, Option, Some, None}
 use Rattle.ep_base.specs.declared.air.CardKind.{CardKind}
-use Rattle.ep_base.specs.declared.air.Wave.{Wave}
 use Rattle.ep_base.specs.declared.blocks.Phase as phases
 use Rattle.ep_base.specs.declared.blocks.Phase.TheVariants as phase
 use Rattle.ep_base.specs.Air.Frame.{sealed, opened}

@@ -52,8 +52,8 @@ pub data Announced : Type 0 where
   Nothing : Announced
 
 -- The PCBs of the protocol, without CID and NAD (ISO/IEC 14443-4).
-unfoldable pub announced : ℕ → Announced
-announced pcb =
+unfoldable pub pcb_kind : ℕ → Announced
+pcb_kind pcb =
     if pcb == 0x02 then AnI false false else (if pcb == 0x03 then AnI true false else (
     if pcb == 0x12 then AnI false true else (if pcb == 0x13 then AnI true true else (
     if pcb == 0xa2 then AnAck false else (if pcb == 0xa3 then AnAck true else (
@@ -88,11 +88,11 @@ has_nad_bit pcb = pcb / 4 % 2 == 1
 
 -- A CID bit that, taken away, leaves a PCB of the protocol, or, taken away with the NAD bit, that of an I-block (this project's profile).
 unfoldable pub is_cid : ℕ → Bool
-is_cid pcb = has_cid_bit pcb && (is_any (announced (pcb - 8)) || (has_nad_bit pcb && is_i (announced (pcb - 12))))
+is_cid pcb = has_cid_bit pcb && (is_any (pcb_kind (pcb - 8)) || (has_nad_bit pcb && is_i (pcb_kind (pcb - 12))))
 
 -- A NAD bit that, taken away, leaves the PCB of an I-block (this project's profile).
 unfoldable pub is_nad : ℕ → Bool
-is_nad pcb = has_nad_bit pcb && is_i (announced (pcb - 4))
+is_nad pcb = has_nad_bit pcb && is_i (pcb_kind (pcb - 4))
 
 -- Why a PCB is none of the protocol's (this project's profile).
 abbrev pub pcb_fault : ℕ → BlockFault
@@ -130,4 +130,4 @@ read_after pcb Nothing inf = Refuses (pcb_fault pcb)
 -- The block that bytes are, or the first cause why they are none (ISO/IEC 14443-4; the order of the causes is this project's profile).
 abbrev pub read_block : List ℕ → Read
 read_block [] = Refuses Empty
-read_block (pcb ∷ inf) = read_after pcb (announced pcb) inf
+read_block (pcb ∷ inf) = read_after pcb (pcb_kind pcb) inf

@@ -1,5 +1,5 @@
 -- One card in an open link, under fates (ISO/IEC 14443-4; fates and images are this project's own).
-use Rattle.std.specs.Prelude.{ℕ, ◌+◌, ◌-◌, ◌^◌, min, nat_lt, ◌&&◌, Bool, true, false, not, if◌then◌else◌, List, [], ◌∷◌, ◌++◌, length, Option, Some, None}
+use Rattle.std.specs.Prelude.{ℕ, ◌+◌, ◌-◌, ◌^◌, min, nat_lt, ◌&&◌, true, false, not, if◌then◌else◌, List, [], ◌++◌, length, Option, Some, None}
 use Rattle.ep_base.specs.declared.air.CardKind.{CardKind}
 use Rattle.ep_base.specs.declared.air.Wave.{Wave}
 use Rattle.ep_base.specs.Air.Frame.{opened, is_bare, hits, after_burst}
@@ -13,7 +13,7 @@ use Rattle.ep_base.specs.Link.LinkFrames.{block_frame}
 use Rattle.ep_base.specs.Cards.CardAnswer.{Image}
 use Rattle.ep_base.specs.Cards.Images.{image_from, state_after}
 use Rattle.ep_base.specs.Cards.Direct.{image_rules}
-use Rattle.ep_base.specs.Air.Fates.{Way, Passes, Loses, Bursts, Leaves, Fate, Air, next_fate, gone_by, later}
+use Rattle.ep_base.specs.Air.Fates.{Way, Passes, Loses, Bursts, Leaves, Fate, Air, next_fate, later}
 
 -- A burst on a frame that goes down: one with check bytes comes damaged, one without that is damaged is heard by no card (this project's own).
 abbrev pub burst_down : ℕ → ℕ → Wave → List ℕ → Option (List ℕ)
@@ -60,7 +60,7 @@ abbrev pub unmoved : Party → Heeded
 unmoved p = record { party = p; executed = []; answer = None }
 
 -- An image by the commands that it executes from this state on (this project's own).
-abbrev pub by_commands : Image → Ends.Image
+abbrev pub by_commands : Image → Ends.CommandRules
 by_commands i = image_from (image_rules (λ card. i.number)) i.number i
 
 -- An image after these commands (this project's own).

@@ -16,8 +16,8 @@ pub record Contents : Type 0 where
   pub slots : ℕ
 
 -- The contents of an arena that has just been opened.
-abbrev pub opened : ℕ → ℕ → Contents
-opened bytes slots = record { objects = []; next = 0; bytes = bytes; slots = slots }
+abbrev pub opened_arena : ℕ → ℕ → Contents
+opened_arena bytes slots = record { objects = []; next = 0; bytes = bytes; slots = slots }
 
 -- The bytes of all values.
 abbrev pub live_bytes : List Object → ℕ
@@ -70,21 +70,21 @@ abbrev pub has_room_for : ℕ → List ℕ → Contents → Bool
 has_room_for serial value c = nat_le (live_bytes (replaced serial value c.objects)) c.bytes
 
 -- The calls that may change an arena.
-pub data Call : Type 0 where
-  put : (group tag : ℕ) → (value : List ℕ) → Call
-  replace : (serial : ℕ) → (value : List ℕ) → Call
-  remove : (serial : ℕ) → Call
-  drop_group : (group : ℕ) → Call
-  clear : Call
-  relocate : Call
+pub data ArenaCall : Type 0 where
+  put : (group tag : ℕ) → (value : List ℕ) → ArenaCall
+  replace : (serial : ℕ) → (value : List ℕ) → ArenaCall
+  remove : (serial : ℕ) → ArenaCall
+  drop_group : (group : ℕ) → ArenaCall
+  clear : ArenaCall
+  relocate : ArenaCall
 
 -- The contents with one more object, at the end.
-abbrev pub added : ℕ → ℕ → List ℕ → Contents → Contents
-added group tag value c = record c { objects = c.objects ++ (record { serial = c.next; group = group; tag = tag; value = value } ∷ []); next = c.next + 1 }
+abbrev pub with_object : ℕ → ℕ → List ℕ → Contents → Contents
+with_object group tag value c = record c { objects = c.objects ++ (record { serial = c.next; group = group; tag = tag; value = value } ∷ []); next = c.next + 1 }
 
 -- The contents after a call. A put or a replacement without room changes nothing.
-abbrev pub after : Call → Contents → Contents
-after (put group tag value) c = if has_room (length value) c then added group tag value c else c
+abbrev pub after : ArenaCall → Contents → Contents
+after (put group tag value) c = if has_room (length value) c then with_object group tag value c else c
 after (replace serial value) c = if has_room_for serial value c then record c { objects = replaced serial value c.objects } else c
 after (remove serial) c = record c { objects = removed serial c.objects }
 after (drop_group group) c = record c { objects = without_group group c.objects }
@@ -92,17 +92,17 @@ after clear c = record c { objects = []; next = 0 }
 after relocate c = c
 
 -- The contents after a list of calls.
-abbrev pub after_all : List Call → Contents → Contents
-after_all [] c = c
-after_all (call ∷ calls) c = after_all calls (after call c)
+abbrev pub after_calls : List ArenaCall → Contents → Contents
+after_calls [] c = c
+after_calls (call ∷ calls) c = after_calls calls (after call c)
 
 -- A put has a serial to give: there were fewer than 2 ^ 64 - 1 since the last clear.
-abbrev pub HasSerial : Call → Contents → Type 0
+abbrev pub HasSerial : ArenaCall → Contents → Type 0
 HasSerial (put group tag value) c = c.next < 2 ^ 64 - 1
 HasSerial _ c = Unit {0}
 
 -- Each put of these calls has one.
-abbrev pub HaveSerials : List Call → Contents → Type 0
+abbrev pub HaveSerials : List ArenaCall → Contents → Type 0
 HaveSerials [] c = Unit {0}
 HaveSerials (call ∷ calls) c = HasSerial call c × HaveSerials calls (after call c)
 

@@ -4,7 +4,7 @@ use Rattle.std.specs.declared.option.Option.{Option}
 use Rattle.ep_base.specs.Objects.Forest.{Forest, nothing, padding, primitive, constructed, tag_number}
 use Rattle.ep_base.specs.Objects.Reading.{forest_of}
 use Rattle.ep_base.specs.Cards.Apdu.{data_of, is_9000}
-use Rattle.ep_base.specs.Objects.Arena.{Object, Contents, added, value_in}
+use Rattle.ep_base.specs.Objects.Arena.{Object, Contents, with_object, value_in}
 
 -- An entry: of each tag the value of its first primitive child.
 pub record Entry : Type 0 where
@@ -83,7 +83,7 @@ is_named e = is_name e.name
 -- The contents with one more object, where there is a value.
 abbrev pub with_value : ℕ → ℕ → Option (List ℕ) → Contents → Contents
 with_value group tag None c = c
-with_value group tag (Some value) c = added group tag value c
+with_value group tag (Some value) c = with_object group tag value c
 
 abbrev pub with_entry : ℕ → Entry → Contents → Contents
 with_entry n e c =

@@ -1,11 +1,11 @@
 -- Poll rounds over a medium, and how polling for a card ends (this project's profile, after EMV Contactless Book D).
 use Rattle.std.specs.Prelude.{◌≡◌, ℕ, zero, suc, List, [], ◌∷◌, Option, Some, None}
-use Rattle.ep_base.specs.Air.Heard.{Activated, Heard, RoundEnd, Empty, Collision, Unsupported, Broken, Found, Turn, Goes, Ends}
+use Rattle.ep_base.specs.Air.Heard.{Activated, Heard, RoundEnd, Empty, Collision, Unsupported, Broken, Found, RoundTurn, Goes, Ends}
 use Rattle.ep_base.specs.Air.Medium.{MediumSteps, Exchanges}
 use Rattle.ep_base.specs.Poll.Round.{Stage, Waking, round_asks, round_hears}
 use Rattle.ep_base.specs.declared.limits.TheConstants.{ROUND_EXCHANGES}
 
--- How polling for a card ends: with the card, with 64 rounds without one, or by a device's failure (this project's profile).
+-- How polling for a card ends: with the card, with all its rounds and none, or by a device's failure (this project's profile).
 pub data Polled : Type 0 where
   Came : (card : Activated) → Polled
   NoCard : Polled
@@ -21,7 +21,7 @@ card_in (Found card) = Some card
 
 module _ {S : Type 0} (steps : MediumSteps S) (fsdi : ℕ) where
   -- The round is over (this project's own).
-  abbrev pub IsOver : Turn Stage → S → Option RoundEnd → S → Type 0
+  abbrev pub IsOver : RoundTurn Stage → S → Option RoundEnd → S → Type 0
   IsOver (Goes stage) s ending t = ⊥
   IsOver (Ends e) s ending t = (ending ≡ Some e) × (t ≡ s)
 
@@ -31,7 +31,7 @@ module _ {S : Type 0} (steps : MediumSteps S) (fsdi : ℕ) where
   AfterExchange Then None s ending t = (ending ≡ None) × (t ≡ s)
 
   -- The round is over, or its next exchange is made, and it goes on after it (this project's own).
-  abbrev pub GoesOn : (Turn Stage → S → Option RoundEnd → S → Type 0) → Turn Stage → S → Option RoundEnd → S → Type 0
+  abbrev pub GoesOn : (RoundTurn Stage → S → Option RoundEnd → S → Type 0) → RoundTurn Stage → S → Option RoundEnd → S → Type 0
   GoesOn Then (Goes stage) s ending t =
       (heard : Option Heard) × (u : S) × Exchanges steps s (round_asks fsdi stage) heard u
       × AfterExchange (λ h. Then (round_hears stage h)) heard u ending t
@@ -39,11 +39,11 @@ module _ {S : Type 0} (steps : MediumSteps S) (fsdi : ℕ) where
 
   -- With at most so many exchanges the round ends so, or not at all where a call failed, and leaves the medium so: from
   -- the first state to the second (this project's own).
-  unfoldable pub Plays : ℕ → Turn Stage → S → Option RoundEnd → S → Type 0
+  unfoldable pub Plays : ℕ → RoundTurn Stage → S → Option RoundEnd → S → Type 0
   Plays zero turn s ending t = IsOver turn s ending t
   Plays (suc n) turn s ending t = GoesOn (Plays n) turn s ending t
 
-  -- A round: it has at most eleven exchanges (this project's profile).
+  -- A round: it has at most `ROUND_EXCHANGES` exchanges (this project's profile).
   abbrev pub PlaysRound : S → Option RoundEnd → S → Type 0
   PlaysRound s ending t = Plays ROUND_EXCHANGES (Goes Waking) s ending t
 

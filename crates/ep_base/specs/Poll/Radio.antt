@@ -5,11 +5,11 @@ use Rattle.ep_base.specs.Air.Heard.{Activated, Heard, RoundEnd, Empty, Collision
 use Rattle.ep_base.specs.Air.Medium.{MediumSteps}
 use Rattle.ep_base.specs.Poll.Polling.{Polled, Came, NoCard, Device, PlaysRounds}
 use Rattle.ep_base.specs.Link.Block.{Deselect}
-use Rattle.ep_base.specs.Link.ReaderEnd.{Reader, Turn, Asks, Gives, Spends, Breaks, asked, begin}
-use Rattle.ep_base.specs.Link.Dialogue.{opened}
+use Rattle.ep_base.specs.Link.ReaderEnd.{Reader, ReaderTurn, Asks, Gives, Spends, Breaks, asked, begin}
+use Rattle.ep_base.specs.Link.Dialogue.{opened_reader}
 use Rattle.ep_base.specs.Link.LinkFrames.{LinkSetting}
 use Rattle.ep_base.specs.Link.Carry.{SendsBlock, Follows}
-use Rattle.ep_base.specs.Poll.Transport.{TransportSteps, Presentation, Here, Nobody, Gone, Reply, Answered, Spent, Breached, Lost}
+use Rattle.ep_base.specs.Poll.Transport.{TransportSteps, PresentResult, Here, Nobody, Gone, Reply, Answered, Spent, Breached, Lost}
 use Rattle.ep_base.specs.declared.limits.TheConstants.{ROUNDS}
 
 -- An open link between two commands: its setting, and the reader's end (ISO/IEC 14443-4).
@@ -29,7 +29,7 @@ setting_of fsdi card = record { kind = card.kind; frames = record { card = card.
 
 -- The link that was just opened with a card (ISO/IEC 14443-4).
 abbrev pub link_to : ℕ → Activated → OpenLink
-link_to fsdi card = record { set = setting_of fsdi card; reader = opened }
+link_to fsdi card = record { set = setting_of fsdi card; reader = opened_reader }
 
 -- Whether this is a collision (this project's profile).
 abbrev pub is_collision : RoundEnd → Bool
@@ -50,7 +50,7 @@ pub record HasLink {S : Type 0} (link : Option OpenLink) (s t : Radio S) : Type 
   pub links : t.link ≡ link
 
 module _ {S : Type 0} (steps : MediumSteps S) where
-  -- At most 64 rounds were played, which ended so, and of which one was a collision or none (this project's profile).
+  -- At most `ROUNDS` rounds were played, which ended so, and of which one was a collision or none (this project's profile).
   pub record Polls (s : Radio S) (collided : Bool) (polled : Polled) (t : Radio S) : Type 0 where
     pub ends : List RoundEnd
     pub plays : PlaysRounds steps s.fsdi ROUNDS s.medium ends polled t.medium
@@ -58,13 +58,13 @@ module _ {S : Type 0} (steps : MediumSteps S) where
 
   -- A presentation is rounds until one ends with a card, which opens a link to it; where none does, or the device fails, there is no link (this
   -- project's profile).
-  abbrev pub RadioPresents : Radio S → Presentation → Radio S → Type 0
+  abbrev pub RadioPresents : Radio S → PresentResult → Radio S → Type 0
   RadioPresents s (Here collided card) t = Polls s collided (Came card) t × HasLink (Some (link_to s.fsdi card)) s t
   RadioPresents s (Nobody collided) t = Polls s collided NoCard t × HasLink None s t
   RadioPresents s Gone t = ((collided : Bool) × Polls s collided Device t) × HasLink None s t
 
   -- From the reader that has begun the command, some hearings lead to this turn (ISO/IEC 14443-4).
-  pub record Comes (l : OpenLink) (command : List ℕ) (s : S) (turn : Turn) (t : S) : Type 0 where
+  pub record Comes (l : OpenLink) (command : List ℕ) (s : S) (turn : ReaderTurn) (t : S) : Type 0 where
     pub hearings : List Heard
     pub follows : Follows steps l.set hearings (begin l.set.frames.card command l.reader) s turn t
 

@@ -2,7 +2,7 @@
 use Rattle.std.specs.Prelude.{ℕ, ◌+◌, Bool, true, false, List, [], ◌∷◌, ◌++◌, length, drop, Option, Some, None}
 use Rattle.ep_base.specs.Air.Heard.{Ask, Heard}
 use Rattle.ep_base.specs.Cards.Field.{Field}
-use Rattle.ep_rules.specs.EntryPoint.Event.{Said}
+use Rattle.ep_rules.specs.EntryPoint.Event.{Event as EventData}
 use Rattle.ep_rules.specs.EntryPoint.Talk.{Talk}
 use Rattle.ep_claim.specs.Text.TraceLine.{TraceLine, trace_line}
 use Rattle.ep_claim.specs.Text.WrittenText.{event_lines, log_lines}
@@ -45,8 +45,8 @@ opens fsdi lane txn [] = record { text = []; going = None }
 opens fsdi lane txn (j ∷ js) = opens_by lane txn j js (opens fsdi lane (txn + 1) js) (asked_by fsdi (started j.talk).doing)
 
 -- The events that an exchange adds (this project's own).
-abbrev pub added : Talk → Standing → Standing → List Said
-added talk s t = drop (length (events_of talk s)) (events_of talk t)
+abbrev pub added_events : Talk → Standing → Standing → List EventData
+added_events talk s t = drop (length (events_of talk s)) (events_of talk t)
 
 -- An exchange of this lane as a trace tells it (this project's own).
 abbrev pub traced_as : ℕ → Ask → Heard → TraceLine
@@ -73,4 +73,4 @@ goes_on fsdi lane g l None = after_text (log_lines lane g.txn l.field.log) (open
 -- What a lane writes with an exchange that leaves its transaction so (this project's own).
 abbrev pub piece_of : (fsdi lane : ℕ) → Going → Lane → Piece
 piece_of fsdi lane g l =
-    after_text (event_lines lane g.txn (added g.talk g.lane.standing l.standing)) (goes_on fsdi lane g l (asked_by fsdi l.standing.doing))
+    after_text (event_lines lane g.txn (added_events g.talk g.lane.standing l.standing)) (goes_on fsdi lane g l (asked_by fsdi l.standing.doing))

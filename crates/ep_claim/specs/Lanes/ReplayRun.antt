@@ -1,7 +1,6 @@
 -- The comparison of a run with the trace of an earlier one (this project's own).
 use Rattle.std.specs.Prelude.{◌≡◌, ℕ, ◌+◌, ◌-◌, ◌^◌, ◌==◌, ◌&&◌, ◌↔◌, min, Bool, true, false, List, slice_get, IsSome, IsNone, Some, None, if◌then◌else◌}
 use Rattle.std.specs.declared.option.Option.{Option}
-use Rattle.ep_base.specs.declared.air.Wave.{Wave}
 use Rattle.ep_base.specs.Cards.Apdu.{same_bytes}
 use Rattle.ep_base.specs.Air.Heard.{Heard, same_wave}
 use Rattle.ep_base.specs.Air.Medium.{ToldMedium}
@@ -21,8 +20,8 @@ pub record Replaying : Type 0 where
   pub failure : Option Mismatch
 
 -- Before the first exchange, the first lane sends (this project's own).
-abbrev pub begun : List TraceLine → Replaying
-begun lines = record { lines = lines; taken = 0; lane = 1; failure = None }
+abbrev pub begun_replay : List TraceLine → Replaying
+begun_replay lines = record { lines = lines; taken = 0; lane = 1; failure = None }
 
 -- The lane that sends next (this project's own).
 abbrev pub at_lane : ℕ → Replaying → Replaying

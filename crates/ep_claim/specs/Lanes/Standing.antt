@@ -1,14 +1,14 @@
 -- A transaction between two of its exchanges: by the results so far its talk says events and wishes something (this project's own form).
 use Rattle.std.specs.Prelude.{ℕ, List, [], ◌∷◌, ◌++◌, Option, Some, None}
-use Rattle.ep_base.specs.Air.Heard.{Activated, Ask, Heard, RoundEnd, Empty, Collision, Unsupported, Broken, Found}
+use Rattle.ep_base.specs.Air.Heard.{Ask, Heard, RoundEnd, Empty, Collision, Unsupported, Broken, Found}
 use Rattle.ep_base.specs.Air.Heard as rounds
 use Rattle.ep_base.specs.Poll.Round.{Stage, Waking, round_asks, round_hears}
 use Rattle.ep_base.specs.Link.Block.{Block, Deselect}
-use Rattle.ep_base.specs.Link.ReaderEnd.{Turn, Asks, Gives, Spends, Breaks, asked, begin}
+use Rattle.ep_base.specs.Link.ReaderEnd.{ReaderTurn, Asks, Gives, Spends, Breaks, asked, begin}
 use Rattle.ep_base.specs.Link.LinkFrames.{LinkSetting, block_ask}
 use Rattle.ep_base.specs.Link.Carry.{turn_on}
 use Rattle.ep_base.specs.Poll.Radio.{OpenLink, link_to}
-use Rattle.ep_rules.specs.EntryPoint.Event.{Said}
+use Rattle.ep_rules.specs.EntryPoint.Event.{Event as EventData}
 use Rattle.ep_rules.specs.EntryPoint.Talk.{Talk, Result, Round, Response, Closed, Wish, Polls, Commands, Closes, Nothing, so_far}
 use Rattle.ep_rules.specs.EntryPoint.TransportRun.{HearEnd, Whole, AtLink, AtBreach, said_for}
 
@@ -68,12 +68,12 @@ link_by fsdi Broken = None
 link_by fsdi (Found card) = Some (link_to fsdi card)
 
 -- After a hearing in a round (this project's profile).
-abbrev pub after_stage : ℕ → Talk → List Result → rounds.Turn Stage → Standing
+abbrev pub after_stage : ℕ → Talk → List Result → rounds.RoundTurn Stage → Standing
 after_stage fsdi talk results (rounds.Goes stage) = record { results = results; doing = Rounds stage }
 after_stage fsdi talk results (rounds.Ends e) = standing talk (results ++ Round e ∷ []) (link_by fsdi e)
 
 -- After a hearing of an open command (ISO/IEC 14443-4).
-abbrev pub after_turn : Talk → List Result → LinkSetting → Turn → Standing
+abbrev pub after_turn : Talk → List Result → LinkSetting → ReaderTurn → Standing
 after_turn talk results set (Asks r) = record { results = results; doing = Carries (record { set = set; reader = r }) }
 after_turn talk results set (Gives response r) = standing talk (results ++ Response response ∷ []) (Some (record { set = set; reader = r }))
 after_turn talk results set (Spends r) = record { results = results; doing = Stopped AtLink }
@@ -100,10 +100,10 @@ ending_of (Stopped ending) = Some ending
 ending_of Astray = None
 
 -- The events for these results, with the end of a link that failed (this project's own).
-abbrev pub events_by : Talk → List Result → Option HearEnd → List Said
+abbrev pub events_by : Talk → List Result → Option HearEnd → List EventData
 events_by talk results None = (so_far talk results).events
 events_by talk results (Some ending) = said_for talk results ending
 
 -- All its events so far (this project's own).
-abbrev pub events_of : Talk → Standing → List Said
+abbrev pub events_of : Talk → Standing → List EventData
 events_of talk s = events_by talk s.results (ending_of s.doing)

@@ -1,12 +1,12 @@
 -- What a lane of a run tells of its transactions (this project's own).
 use Rattle.std.specs.Prelude.{◌≡◌, ℕ, zero, suc, ◌+◌, ◌==◌, Bool, false, if◌then◌else◌, List, [], ◌∷◌, ◌++◌, length, Option, Some, None}
 use Rattle.ep_base.specs.Air.Heard.{Ask}
-use Rattle.ep_rules.specs.EntryPoint.Event.{Said}
+use Rattle.ep_rules.specs.EntryPoint.Event.{Event as EventData}
 use Rattle.ep_rules.specs.EntryPoint.Talk.{Talk}
 use Rattle.ep_claim.specs.Text.WrittenText.{event_lines, log_lines, lane_text}
 use Rattle.ep_claim.specs.Lanes.Standing.{started, asked_by, events_of}
 use Rattle.ep_claim.specs.Lanes.Exchanges.{Lane, field_answers, or_silence, opened_lane, lane_step, lane_after}
-use Rattle.ep_claim.specs.Lanes.LaneText.{Job, Going, added, trace_part}
+use Rattle.ep_claim.specs.Lanes.LaneText.{Job, Going, added_events, trace_part}
 use Rattle.ep_claim.specs.Lanes.Turning.{IsLane}
 use Rattle.ep_claim.specs.Lanes.WholeRun.{open_probe, run_after}
 use Rattle.ep_claim.specs.Lanes.Pieces.{of_lane, pieces_after}
@@ -29,7 +29,7 @@ IsOverAt fsdi j n = asked_by fsdi (job_after fsdi j n).standing.doing ≡ None
 abbrev pub exchange_by : Bool → (fsdi lane txn : ℕ) → Talk → Lane → Option Ask → List ℕ
 exchange_by traced fsdi lane txn talk l None = []
 exchange_by traced fsdi lane txn talk l (Some ask) =
-    trace_part traced lane ask (or_silence (field_answers ask l.field).0) ++ event_lines lane txn (added talk l.standing (lane_step fsdi talk l).standing)
+    trace_part traced lane ask (or_silence (field_answers ask l.field).0) ++ event_lines lane txn (added_events talk l.standing (lane_step fsdi talk l).standing)
 
 -- The text of so many exchanges (this project's own).
 abbrev pub exchanges_text : Bool → (fsdi lane txn : ℕ) → Talk → ℕ → Lane → List ℕ
@@ -87,7 +87,7 @@ RunsTell =
     AreTold traced fsdi lane 1 (jobs_of 1 lanes lane) (of_lane lane (pieces_after traced open_probe fsdi turns tt lanes n))
 
 -- The events and logs of transactions, each of them over (this project's own).
-abbrev pub AreEnds : ℕ → List Job → List (List Said × List (ℕ × List ℕ)) → Type 0
+abbrev pub AreEnds : ℕ → List Job → List (List EventData × List (ℕ × List ℕ)) → Type 0
 AreEnds fsdi [] [] = Unit {0}
 AreEnds fsdi [] (t ∷ rest) = ⊥
 AreEnds fsdi (j ∷ js) [] = ⊥
@@ -99,4 +99,4 @@ AreEnds fsdi (j ∷ js) (t ∷ rest) =
 abbrev pub TellsReport : Type 0
 TellsReport =
     (fsdi lane : ℕ) (jobs : List Job) (text : List ℕ) → AreTold false fsdi lane 1 jobs text →
-    (ends : List (List Said × List (ℕ × List ℕ))) × AreEnds fsdi jobs ends × (text ≡ lane_text lane ends)
+    (ends : List (List EventData × List (ℕ × List ℕ))) × AreEnds fsdi jobs ends × (text ≡ lane_text lane ends)

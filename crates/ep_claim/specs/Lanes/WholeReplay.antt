@@ -2,11 +2,11 @@
 use Rattle.std.specs.Prelude.{◌≡◌, ℕ, ◌+◌, ◌==◌, Bool, if◌then◌else◌, List, [], ◌∷◌, ◌++◌, length, Option, Some, None, is_some}
 use Rattle.ep_base.specs.Air.Heard.{Ask, Heard}
 use Rattle.ep_claim.specs.Lanes.Steps.{times}
-use Rattle.ep_claim.specs.Lanes.ReplayRun.{Mismatch, Replaying, at_lane, begun, finishes, replay}
+use Rattle.ep_claim.specs.Lanes.ReplayRun.{Mismatch, Replaying, at_lane, begun_replay, finishes, replay}
 use Rattle.ep_rules.specs.EntryPoint.Talk.{Talk}
 use Rattle.ep_claim.specs.Text.TraceLine.{TraceLine}
 use Rattle.ep_claim.specs.Lanes.Order.{Order, next_turn, first_order}
-use Rattle.ep_claim.specs.Lanes.ReplayText.{Waiting, opens, heard_piece}
+use Rattle.ep_claim.specs.Lanes.ReplayText.{Waiting, replay_opens, heard_piece}
 
 -- The lanes that wait for an exchange, the order of the exchanges to come, the trace, and what was written (this project's own).
 pub record LaneReplay : Type 0 where
@@ -16,36 +16,36 @@ pub record LaneReplay : Type 0 where
   pub text : List ℕ
 
 -- Whether a lane waits for an exchange (this project's own).
-abbrev pub is_live : LaneReplay → ℕ → Bool
-is_live r n = is_some (r.lanes n)
+abbrev pub is_waiting : LaneReplay → ℕ → Bool
+is_waiting r n = is_some (r.lanes n)
 
 -- The lanes with another one in place of lane n (this project's own).
-abbrev pub with_lane : ℕ → Option Waiting → (ℕ → Option Waiting) → ℕ → Option Waiting
-with_lane n waiting lanes k = if k == n then waiting else lanes k
+abbrev pub with_waiting : ℕ → Option Waiting → (ℕ → Option Waiting) → ℕ → Option Waiting
+with_waiting n waiting lanes k = if k == n then waiting else lanes k
 
 -- What a lane asks is compared with the trace's next line: what that line heard, where it is the same, and the trace after it (this project's own).
-abbrev pub answered : ℕ → Ask → Replaying → Option Heard × Replaying
-answered n ask s = replay.send (at_lane n s) ask.wave ask.bytes ask.wait
+abbrev pub compared_at : ℕ → Ask → Replaying → Option Heard × Replaying
+compared_at n ask s = replay.send (at_lane n s) ask.wave ask.bytes ask.wait
 
 -- Lane n goes on by what the line heard; where its frame isn't the line's, nothing is written, and the replay has failed (this project's own).
-abbrev pub hears : ℕ → ℕ → Order → Waiting → Option Heard × Replaying → LaneReplay → LaneReplay
-hears fsdi n order w (None, trace) r = record { lanes = r.lanes; order = r.order; trace = trace; text = r.text }
-hears fsdi n order w (Some heard, trace) r = record {
-  lanes = with_lane n (heard_piece fsdi n w heard).waiting r.lanes;
+abbrev pub replay_hears : ℕ → ℕ → Order → Waiting → Option Heard × Replaying → LaneReplay → LaneReplay
+replay_hears fsdi n order w (None, trace) r = record { lanes = r.lanes; order = r.order; trace = trace; text = r.text }
+replay_hears fsdi n order w (Some heard, trace) r = record {
+  lanes = with_waiting n (heard_piece fsdi n w heard).waiting r.lanes;
   order = order;
   trace = trace;
   text = r.text ++ (heard_piece fsdi n w heard).text;
 }
 
 -- The turn of lane n (this project's own).
-abbrev pub turn_of : ℕ → ℕ → Order → Option Waiting → LaneReplay → LaneReplay
-turn_of fsdi n order None r = r
-turn_of fsdi n order (Some w) r = hears fsdi n order w (answered n w.asks r.trace) r
+abbrev pub replay_turn_of : ℕ → ℕ → Order → Option Waiting → LaneReplay → LaneReplay
+replay_turn_of fsdi n order None r = r
+replay_turn_of fsdi n order (Some w) r = replay_hears fsdi n order w (compared_at n w.asks r.trace) r
 
 -- By whose turn it is, if it is anyone's (this project's own).
-abbrev pub takes_turn : ℕ → Option (ℕ × Order) → LaneReplay → LaneReplay
-takes_turn fsdi None r = r
-takes_turn fsdi (Some (n, order)) r = turn_of fsdi n order (r.lanes n) r
+abbrev pub replay_takes : ℕ → Option (ℕ × Order) → LaneReplay → LaneReplay
+replay_takes fsdi None r = r
+replay_takes fsdi (Some (n, order)) r = replay_turn_of fsdi n order (r.lanes n) r
 
 -- After a failure it is no one's turn (this project's own).
 abbrev pub turn_unless : Option Mismatch → Option (ℕ × Order) → Option (ℕ × Order)
@@ -54,11 +54,11 @@ turn_unless (Some failure) turn = None
 
 -- Whose turn it is of so many lanes, as in a run, and the order after it (this project's own).
 abbrev pub turn_in : ℕ → LaneReplay → Option (ℕ × Order)
-turn_in count r = turn_unless r.trace.failure (next_turn (is_live r) count r.order)
+turn_in count r = turn_unless r.trace.failure (next_turn (is_waiting r) count r.order)
 
 -- The replay of so many lanes after its next exchange; one that has stopped stays (this project's own).
 abbrev pub replay_step : (fsdi count : ℕ) → LaneReplay → LaneReplay
-replay_step fsdi count r = takes_turn fsdi (turn_in count r) r
+replay_step fsdi count r = replay_takes fsdi (turn_in count r) r
 
 -- It goes no further: it has failed, or no lane waits for an exchange (this project's own).
 abbrev pub HasStopped : ℕ → LaneReplay → Type 0
@@ -69,19 +69,19 @@ abbrev pub first_mismatch : LaneReplay → Option Mismatch
 first_mismatch r = (finishes r.trace).1.failure
 
 -- What is written as the lanes are opened in rising order, of which the first has this number (this project's own).
-abbrev pub opening_text : (fsdi lane : ℕ) → List (List Talk) → List ℕ
-opening_text fsdi lane [] = []
-opening_text fsdi lane (talks ∷ rest) = (opens fsdi lane 1 talks).text ++ opening_text fsdi (lane + 1) rest
+abbrev pub replay_opening : (fsdi lane : ℕ) → List (List Talk) → List ℕ
+replay_opening fsdi lane [] = []
+replay_opening fsdi lane (talks ∷ rest) = (replay_opens fsdi lane 1 talks).text ++ replay_opening fsdi (lane + 1) rest
 
 -- The lanes after that, of which the first has this number (this project's own).
-abbrev pub opening_lanes : (fsdi lane : ℕ) → List (List Talk) → ℕ → Option Waiting
-opening_lanes fsdi lane [] k = None
-opening_lanes fsdi lane (talks ∷ rest) k = if k == lane then (opens fsdi lane 1 talks).waiting else opening_lanes fsdi (lane + 1) rest k
+abbrev pub replay_lanes : (fsdi lane : ℕ) → List (List Talk) → ℕ → Option Waiting
+replay_lanes fsdi lane [] k = None
+replay_lanes fsdi lane (talks ∷ rest) k = if k == lane then (replay_opens fsdi lane 1 talks).waiting else replay_lanes fsdi (lane + 1) rest k
 
 -- A replay of these trace lines whose lanes were just opened (this project's own).
 abbrev pub opened_replay : ℕ → List ℕ → List TraceLine → List (List Talk) → LaneReplay
 opened_replay fsdi turns lines lanes =
-    record { lanes = opening_lanes fsdi 1 lanes; order = first_order turns; trace = begun lines; text = opening_text fsdi 1 lanes }
+    record { lanes = replay_lanes fsdi 1 lanes; order = first_order turns; trace = begun_replay lines; text = replay_opening fsdi 1 lanes }
 
 -- The replay after so many exchanges, if it has as many (this project's own).
 abbrev pub replay_after : ℕ → List ℕ → List TraceLine → List (List Talk) → ℕ → LaneReplay

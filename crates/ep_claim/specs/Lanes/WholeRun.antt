@@ -42,16 +42,16 @@ hears traced fsdi n order g ask field heard run =
     after_piece n order heard.0 (trace_part traced n ask heard.1) (piece_of fsdi n g (heard_lane fsdi g.talk ask heard.1 field g.lane)) run
 
 -- The exchange of a lane: the field answers what is asked, and the probe gives on what it makes of it (this project's own).
-abbrev pub asks : {P : Type 0} → Bool → ProbeSteps P → ℕ → ℕ → Order → Going → Option Ask → Run P → Run P
-asks traced probe fsdi n order g None run = run
-asks traced probe fsdi n order g (Some ask) run =
+abbrev pub makes_exchange : {P : Type 0} → Bool → ProbeSteps P → ℕ → ℕ → Order → Going → Option Ask → Run P → Run P
+makes_exchange traced probe fsdi n order g None run = run
+makes_exchange traced probe fsdi n order g (Some ask) run =
     hears traced fsdi n order g ask (field_answers ask g.lane.field).1
     (probe.hear run.probe n ask (or_silence (field_answers ask g.lane.field).0)) run
 
 -- The turn of lane n (this project's own).
 abbrev pub turn_of : {P : Type 0} → Bool → ProbeSteps P → ℕ → ℕ → Order → Option Going → Run P → Run P
 turn_of traced probe fsdi n order None run = run
-turn_of traced probe fsdi n order (Some g) run = asks traced probe fsdi n order g (asked_by fsdi g.lane.standing.doing) run
+turn_of traced probe fsdi n order (Some g) run = makes_exchange traced probe fsdi n order g (asked_by fsdi g.lane.standing.doing) run
 
 -- By whose turn it is, if it is anyone's (this project's own).
 abbrev pub takes_turn : {P : Type 0} → Bool → ProbeSteps P → ℕ → Option (ℕ × Order) → Run P → Run P

@@ -15,9 +15,9 @@ abbrev pub is_card : CardKind → List ℕ → Placed → Bool
 is_card kind id p = same_kind (kind_of p.outside) kind && bytes_eq (id_of p.outside) id
 
 -- The number of the card of these that was found, by its kind and identifier (this project's own).
-abbrev pub number_in : List Placed → Activated → ℕ
-number_in [] card = 0
-number_in (p ∷ ps) card = if is_card card.kind card.id p then p.party.image.number else number_in ps card
+abbrev pub number_of_card : List Placed → Activated → ℕ
+number_of_card [] card = 0
+number_of_card (p ∷ ps) card = if is_card card.kind card.id p then p.party.image.number else number_of_card ps card
 
 -- The image with a number (this project's own).
 abbrev pub image_in : List Placed → ℕ → Image
@@ -29,4 +29,4 @@ abbrev pub NewFieldIsNew : Type 0
 NewFieldIsNew =
     (cards : List Placed) (presence : List (List ℕ)) (fates : List Fate) (room fsdi : ℕ) →
     ArePlaced cards → AreApart (names cards) → AreDistinct (numbers cards) → AreFates fates →
-    IsNew (number_in cards) (image_in cards) (record { medium = new_field cards presence fates room; fsdi = fsdi; link = None })
+    IsNew (number_of_card cards) (image_in cards) (record { medium = new_field cards presence fates room; fsdi = fsdi; link = None })

@@ -1,17 +1,16 @@
 -- What a transaction has taken after each of its exchanges, and how much it may take (this project's own).
 use Rattle.std.specs.Prelude.{◌≡◌, ℕ, ◌+◌, ◌<◌, ◌≤◌, Bool, if◌then◌else◌, List, [], ◌∷◌, ◌++◌, length, map, Some}
-use Rattle.ep_base.specs.Air.Heard.{Heard, RoundEnd}
+use Rattle.ep_base.specs.declared.limits.TheConstants.{BETWEEN_TOGGLES, ROUND_EXCHANGES, ROUNDS, TOGGLES}
+use Rattle.ep_base.specs.Air.Heard.{Heard}
 use Rattle.ep_base.specs.Air.Heard as rounds
 use Rattle.ep_base.specs.Poll.Round.{Stage, round_hears}
 use Rattle.ep_base.specs.Link.Block.{same}
-use Rattle.ep_base.specs.Link.ReaderEnd.{Reader, Turn, Asks, Gives, Spends, Breaks}
+use Rattle.ep_base.specs.Link.ReaderEnd.{Reader, ReaderTurn, Asks, Gives, Spends, Breaks}
 use Rattle.ep_base.specs.Link.Carry.{turn_on}
 use Rattle.ep_rules.specs.EntryPoint.Talk.{Talk, is_found}
-use Rattle.ep_rules.specs.EntryPoint.Transaction.{most_rounds}
 use Rattle.ep_claim.specs.Lanes.Standing.{Doing, Rounds, Carries, Closing, Stopped, Astray, Standing, started, after_hearing}
-use Rattle.ep_claim.specs.Lanes.Limits.{round_most}
 use Rattle.ep_claim.specs.Lanes.Exchanges.{Exchange}
-use Rattle.ep_claim.specs.Lanes.Counting.{IsBounded, after_all, exchanges_most}
+use Rattle.ep_claim.specs.Lanes.Counting.{IsBounded, after_hearings, exchanges_most}
 use Rattle.ep_claim.specs.Lanes.LaneText.{Job, Going}
 use Rattle.ep_claim.specs.Lanes.Telling.{jobs_of}
 use Rattle.ep_claim.specs.Lanes.WholeRun.{ProbeSteps, run_after}
@@ -32,7 +31,7 @@ abbrev pub no_counts : Counts
 no_counts = record { starts = 0; rounds = 0; round = 0; commands = 0; since = 0; toggles = 0; exchanges = 0 }
 
 -- An exchange of a poll round: the round goes on; or it is over, and where it found a card its Start B is, and a link is opened (this project's own).
-abbrev pub count_round : rounds.Turn Stage → Counts → Counts
+abbrev pub count_round : rounds.RoundTurn Stage → Counts → Counts
 count_round (rounds.Goes stage) c = record {
   starts = c.starts;
   rounds = c.rounds;
@@ -77,7 +76,7 @@ count_given old now c = record {
 }
 
 -- By what the exchange of a command leads to (this project's own).
-abbrev pub count_turn : Reader → Turn → Counts → Counts
+abbrev pub count_turn : Reader → ReaderTurn → Counts → Counts
 count_turn old (Asks r) c = count_asked old r c
 count_turn old (Gives response r) c = count_given old r c
 count_turn old (Spends r) c = count_asked old r c
@@ -112,24 +111,21 @@ all_counted fsdi talk (heard ∷ more) s c = all_counted fsdi talk more (after_h
 abbrev pub counts_after : ℕ → Talk → List Heard → Counts
 counts_after fsdi talk hearings = all_counted fsdi talk hearings (started talk) no_counts
 
--- The most exchanges from one toggle of the reader's number to the next, or from the opening of a link to the first (this project's profile).
-abbrev pub between_toggles : ℕ
-between_toggles = 32
-
--- The most toggles of a command (this project's profile).
+-- The most toggles of a command that are promised, one more than it can take (this project's profile).
 abbrev pub toggles_most : ℕ
-toggles_most = 280
+toggles_most = TOGGLES + 1
 
--- With its next exchange a round has at most 11, its Start B 64 rounds, and the transaction its Start Bs (this project's profile).
+-- With its next exchange a round has at most `ROUND_EXCHANGES`, its Start B `ROUNDS` rounds, and the transaction its Start Bs (this project's
+-- profile).
 pub record RoundFits (most : ℕ) (c : Counts) : Type 0 where
-  pub round : c.round < round_most
-  pub rounds : c.rounds < most_rounds
+  pub round : c.round < ROUND_EXCHANGES
+  pub rounds : c.rounds < ROUNDS
   pub starts : c.starts < most
 
--- With its next exchange the link has at most 32 since the reader's last toggle, or since it was opened; the command has at most 280 toggles, and the
--- transaction its commands (this project's profile).
+-- With its next exchange the link has at most `BETWEEN_TOGGLES` since the reader's last toggle, or since it was opened; the command has at most
+-- `toggles_most` toggles, and the transaction its commands (this project's profile).
 pub record CommandFits (most : ℕ) (c : Counts) : Type 0 where
-  pub since : c.since < between_toggles
+  pub since : c.since < BETWEEN_TOGGLES
   pub toggles : c.toggles < toggles_most
   pub commands : c.commands < most
 
@@ -137,7 +133,7 @@ pub record CommandFits (most : ℕ) (c : Counts) : Type 0 where
 abbrev pub NextFits : (commands starts : ℕ) → Doing → Counts → Type 0
 NextFits commands starts (Rounds stage) c = RoundFits starts c × (c.exchanges < exchanges_most commands starts)
 NextFits commands starts (Carries l) c = CommandFits commands c × (c.exchanges < exchanges_most commands starts)
-NextFits commands starts (Closing l) c = (c.since < between_toggles) × (c.exchanges < exchanges_most commands starts)
+NextFits commands starts (Closing l) c = (c.since < BETWEEN_TOGGLES) × (c.exchanges < exchanges_most commands starts)
 NextFits commands starts (Stopped ending) c = c.exchanges ≤ exchanges_most commands starts
 NextFits commands starts Astray c = c.exchanges ≤ exchanges_most commands starts
 
@@ -145,7 +141,7 @@ NextFits commands starts Astray c = c.exchanges ≤ exchanges_most commands star
 abbrev pub IsCounted : (fsdi : ℕ) → Talk → (commands starts : ℕ) → Type 0
 IsCounted fsdi talk commands starts =
     (hearings : List Heard) →
-    NextFits commands starts (after_all fsdi talk hearings (started talk)).doing (counts_after fsdi talk hearings)
+    NextFits commands starts (after_hearings fsdi talk hearings (started talk)).doing (counts_after fsdi talk hearings)
 
 -- A transaction that is bounded is so (this project's own).
 abbrev pub BoundedCount : Type 0
@@ -162,7 +158,7 @@ pub record IsUnderWay (fsdi : ℕ) (jobs : List Job) (g : Going) : Type 0 where
   pub all : jobs ≡ before ++ job ∷ g.left
   pub number : g.txn ≡ length before + 1
   pub talks : g.talk ≡ job.talk
-  pub led : g.lane.standing ≡ after_all fsdi job.talk (heard_in g.lane.exchanges) (started job.talk)
+  pub led : g.lane.standing ≡ after_hearings fsdi job.talk (heard_in g.lane.exchanges) (started job.talk)
 
 -- Each lane that has an exchange left stands so after every count of the run's exchanges, whatever the probe makes of the hearings (this project's
 -- own).

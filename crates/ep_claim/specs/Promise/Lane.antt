@@ -1,7 +1,7 @@
 -- What is promised of one lane of a run (this project's own).
 use Rattle.std.specs.Prelude.{◌≡◌, ℕ, ◌+◌, Bool, false, All, List, [], ◌∷◌, ◌++◌}
 use Rattle.ep_base.specs.Air.Fates.{AllPass}
-use Rattle.ep_rules.specs.EntryPoint.Event.{Said}
+use Rattle.ep_rules.specs.EntryPoint.Event.{Event as EventData}
 use Rattle.ep_claim.specs.Text.WrittenText.{lane_text}
 use Rattle.ep_claim.specs.Promise.Transaction.{Cards, IsReady, events_at, log_at, perfect_at, perfect_said, TransactionPromise}
 use Rattle.ep_claim.specs.Lanes.LaneText.{Job}
@@ -29,13 +29,13 @@ lane_lines traced fsdi lane txn (j ∷ js) [] = []
 lane_lines traced fsdi lane txn (j ∷ js) (n ∷ ns) = whole_text traced fsdi lane txn j n ++ lane_lines traced fsdi lane (txn + 1) js ns
 
 -- The events and the log of each transaction after so many exchanges over its own field (this project's own).
-abbrev pub ends_at : (fsdi : ℕ) → List Job → (counts : List ℕ) → List (List Said × List (ℕ × List ℕ))
+abbrev pub ends_at : (fsdi : ℕ) → List Job → (counts : List ℕ) → List (List EventData × List (ℕ × List ℕ))
 ends_at fsdi [] counts = []
 ends_at fsdi (j ∷ js) [] = []
 ends_at fsdi (j ∷ js) (n ∷ ns) = (events_at fsdi j n, log_at fsdi j n) ∷ ends_at fsdi js ns
 
 -- The events and the commands of each transaction's perfect run over its own cards, for the ends that its rounds had (this project's own).
-abbrev pub perfect_ends : (fsdi : ℕ) → List Job → List Cards → (counts : List ℕ) → List (List Said × List (ℕ × List ℕ))
+abbrev pub perfect_ends : (fsdi : ℕ) → List Job → List Cards → (counts : List ℕ) → List (List EventData × List (ℕ × List ℕ))
 perfect_ends fsdi [] cards counts = []
 perfect_ends fsdi (j ∷ js) [] counts = []
 perfect_ends fsdi (j ∷ js) (c ∷ cs) [] = []

@@ -5,7 +5,7 @@ use Rattle.ep_base.specs.Cards.Apdu.{is_command}
 use Rattle.ep_base.specs.Cards.CardAnswer.{Image}
 use Rattle.ep_base.specs.Cards.Field.{Field}
 use Rattle.ep_base.specs.Poll.Radio.{Radio}
-use Rattle.ep_rules.specs.EntryPoint.Event.{Said, Apdu, EndLink}
+use Rattle.ep_rules.specs.EntryPoint.Event.{Event as EventData, Apdu, EndLink}
 use Rattle.ep_rules.specs.EntryPoint.Talk.{Talk, Result, Round, Response, Closed, Commands, Nothing, so_far, IsLegal}
 use Rattle.ep_rules.specs.EntryPoint.TransportRun.{HearEnd, Whole, AtLink, AtBreach, AtDevice, said_for}
 use Rattle.ep_rules.specs.EntryPoint.Perfect.{Perfect}
@@ -46,13 +46,13 @@ responses (Closed ∷ results) = responses results
 
 -- A transaction that ends with a link failure, against the perfect run: one wished command has no response; the events are those of the
 -- perfect run before its Apdu, and then End Link; the executions are those before it, and perhaps its own.
-pub record EndsInLink (talk : Talk) (results : List Result) (events : List Said) (log : List (ℕ × List ℕ)) (p : Perfect) : Type 0 where
+pub record EndsInLink (talk : Talk) (results : List Result) (events : List EventData) (log : List (ℕ × List ℕ)) (p : Perfect) : Type 0 where
   pub number : ℕ
   pub command : List ℕ
   pub wished : (so_far talk results).wish ≡ Commands command
   pub response : List ℕ
-  pub before : List Said
-  pub after : List Said
+  pub before : List EventData
+  pub after : List EventData
   pub perfect_said : (so_far talk p.results).events ≡ before ++ Apdu command response ∷ after
   pub said : events ≡ before ++ EndLink ∷ []
   pub earlier : List (ℕ × List ℕ)

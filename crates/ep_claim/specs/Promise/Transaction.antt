@@ -8,10 +8,10 @@ use Rattle.ep_base.specs.Cards.Direct.{image_rules}
 use Rattle.ep_base.specs.Cards.Field.{Field}
 use Rattle.ep_rules.specs.EntryPoint.Perfect.{Perfect, perfect, channel}
 use Rattle.ep_base.specs.Poll.Radio.{Radio}
-use Rattle.ep_rules.specs.EntryPoint.Event.{Said}
+use Rattle.ep_rules.specs.EntryPoint.Event.{Event as EventData}
 use Rattle.ep_rules.specs.EntryPoint.Talk.{Nothing, so_far}
 use Rattle.ep_rules.specs.EntryPoint.TransportRun.{HearEnd, Whole, AtLink}
-use Rattle.ep_claim.specs.Promise.Cards.{number_in, image_in}
+use Rattle.ep_claim.specs.Promise.Cards.{number_of_card, image_in}
 use Rattle.ep_claim.specs.Promise.Perfection.{EndsInLink, IsNew, IsCarried}
 use Rattle.ep_claim.specs.Promise.Closings.{ClosesFound}
 use Rattle.ep_claim.specs.Lanes.Standing.{Stopped, events_of}
@@ -26,7 +26,7 @@ pub record Cards : Type 0 where
 
 -- The numbers and the images of a transaction's cards, as they are found in its field (this project's own).
 abbrev pub cards_in : Job → Cards
-cards_in j = record { number_of = number_in j.field.cards; images = image_in j.field.cards }
+cards_in j = record { number_of = number_of_card j.field.cards; images = image_in j.field.cards }
 
 -- A radio over the field of a transaction, before its first presentation (this project's own).
 abbrev pub radio_of : ℕ → Job → Radio Field
@@ -40,7 +40,7 @@ pub record IsReady (fsdi : ℕ) (j : Job) (cards : Cards) : Type 0 where
   pub closes : ClosesFound false j.talk
 
 -- The events of a transaction after so many exchanges over its own field, the end of a failed link among them (this project's own).
-abbrev pub events_at : (fsdi : ℕ) → Job → (n : ℕ) → List Said
+abbrev pub events_at : (fsdi : ℕ) → Job → (n : ℕ) → List EventData
 events_at fsdi j n = events_of j.talk (job_after fsdi j n).standing
 
 -- What its cards executed until then: the card and the command of each execution, in order (this project's own).
@@ -53,7 +53,7 @@ perfect_at fsdi j cards n later =
     perfect (image_rules cards.number_of) j.talk (ends_of (job_after fsdi j n).standing.results ++ later) (channel cards.images)
 
 -- The events of a perfect run (this project's own).
-abbrev pub perfect_said : Job → Perfect → List Said
+abbrev pub perfect_said : Job → Perfect → List EventData
 perfect_said j p = (so_far j.talk p.results).events
 
 -- What is promised of one transaction over its own field, which is over after exactly so many exchanges, whatever becomes of its frames. Where no

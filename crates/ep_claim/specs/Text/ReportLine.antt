@@ -8,8 +8,8 @@ use Rattle.ep_base.specs.declared.outcome.OutcomeKind.{OutcomeKind}
 use Rattle.ep_base.specs.declared.outcome.OutcomeKind.TheVariants as outcomes
 use Rattle.ep_base.specs.declared.outcome.Message.{Message}
 use Rattle.ep_base.specs.declared.outcome.Message.TheVariants as messages
-use Rattle.ep_rules.specs.EntryPoint.PreProcessing.{Ready}
-use Rattle.ep_rules.specs.EntryPoint.Event.{Activation, Told, Start, Pre, Notice, Card, Candidates, Activate, Outcome, Finished, NoCard, Said, Tells, Apdu, End, EndLink, EndBreach}
+use Rattle.ep_rules.specs.EntryPoint.PreProcessing.{PreparedOne}
+use Rattle.ep_rules.specs.EntryPoint.Event.{Activation, OwnEvent, Start, Pre, Notice, Card, Candidates, Activate, Outcome, Finished, NoCard, Event as EventData, Tells, Apdu, End, EndLink, EndBreach}
 
 -- Bytes as lower-case hexadecimal digits, two for each byte.
 abbrev pub hex : List ℕ → List ℕ
@@ -62,7 +62,7 @@ abbrev pub prefix : ℕ → ℕ → List ℕ
 prefix lane txn = decimal lane ++ codes "." ++ decimal txn ++ codes " "
 
 -- What Pre-Processing found of the Combination of this number.
-abbrev pub pre_text : ℕ → Ready → List ℕ
+abbrev pub pre_text : ℕ → PreparedOne → List ℕ
 pre_text number one =
     codes "pre " ++ decimal number
     ++ codes " aid=" ++ hex one.combination.aid
@@ -84,7 +84,7 @@ activate_text given =
     ++ codes " fci=" ++ hex given.fci
 
 -- What a transaction tells by itself, after the prefix.
-abbrev pub told_text : Told → List ℕ
+abbrev pub told_text : OwnEvent → List ℕ
 told_text (Start txn_type amount) = codes "start type=" ++ hex (txn_type ∷ []) ++ codes " amount=" ++ decimal amount
 told_text (Pre number one) = pre_text number one
 told_text (Notice message) = codes "message " ++ hex ((message_row message).identifier ∷ []) ++ codes " " ++ (message_row message).words
@@ -94,7 +94,7 @@ told_text (Activate given) = activate_text given
 told_text (Outcome kind) = codes "outcome " ++ kind_word kind
 
 -- An event, after the prefix.
-abbrev pub said_text : Said → List ℕ
+abbrev pub said_text : EventData → List ℕ
 said_text (Tells what) = told_text what
 said_text (Apdu command response) = codes "apdu " ++ hex command ++ codes " " ++ hex response
 said_text (End Finished) = codes "end done"
@@ -103,7 +103,7 @@ said_text EndLink = codes "end link"
 said_text EndBreach = codes "end breach"
 
 -- The line of an event.
-unfoldable pub line_of : (lane txn : ℕ) → Said → List ℕ
+unfoldable pub line_of : (lane txn : ℕ) → EventData → List ℕ
 line_of lane txn said = prefix lane txn ++ said_text said ++ codes "\n"
 
 -- The line of a record of the log: the card's number, and the command that it executed.

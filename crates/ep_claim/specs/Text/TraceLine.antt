@@ -8,8 +8,8 @@ use Rattle.ep_base.specs.declared.air.Wave.{Wave}
 use Rattle.ep_base.specs.declared.air.Wave.TheVariants.{AShort, ABare, A, B}
 use Rattle.ep_base.specs.Cards.Apdu.{same_bytes}
 use Rattle.ep_base.specs.Air.Heard.{Heard, Silence, Noise, Overlap, Frame}
-use Rattle.ep_base.specs.declared.limits.TheConstants.{FRAME}
-use Rattle.ep_base.specs.Streams.Words.{cut, ◌>>=◌}
+use Rattle.ep_base.specs.declared.limits.TheConstants.{FRAME, LANES}
+use Rattle.ep_base.specs.Streams.Words.{◌>>=◌, split_word}
 
 -- What a lane sent in an exchange: the frame with its check bytes, its wave, and its waiting number (this project's own).
 pub record Shown : Type 0 where
@@ -73,7 +73,7 @@ abbrev pub frame_within : Result (List ℕ) FromHexError → Option (List ℕ)
 frame_within (Ok bytes) = if nat_le 1 (length bytes) && nat_le (length bytes) FRAME then Some bytes else None
 frame_within (Err e) = None
 
--- The frame of 1 to 256 bytes that hexadecimal digits of either case spell (this project's own).
+-- The frame of 1 to `FRAME` bytes that hexadecimal digits of either case spell (this project's own).
 unfoldable pub frame_spelled : List ℕ → Option (List ℕ)
 frame_spelled digits = frame_within (decode_of digits)
 
@@ -100,13 +100,13 @@ heard_spelled wave text =
 -- What a text says was sent, and what stands after it (this project's own).
 unfoldable pub read_shown : List ℕ → Option (Shown × List ℕ)
 read_shown text = do
-  first ← cut text
-  lane ← number_in 1 8 first.0
-  second ← cut first.1
+  first ← split_word text
+  lane ← number_in 1 LANES first.0
+  second ← split_word first.1
   wave ← wave_named second.0
-  third ← cut second.1
+  third ← split_word second.1
   frame ← frame_spelled third.0
-  fourth ← cut third.1
+  fourth ← split_word third.1
   wait ← number_in 0 16384 fourth.0
   Some (record { lane = lane; wave = wave; frame = frame; wait = wait }, fourth.1)
 
@@ -123,7 +123,7 @@ with_heard parts = do
 -- The exchange that a line without its newline spells (this project's own).
 unfoldable pub read_trace_line : List ℕ → Option TraceLine
 read_trace_line text = do
-  parts ← cut text
+  parts ← split_word text
   body ← after_mark parts
   sent ← read_shown body
   with_heard sent

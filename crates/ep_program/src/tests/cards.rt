@@ -1,8 +1,7 @@
 //! Purchases with no card, with cards of both types, and with several cards.
 
-use super::REPORT;
-use super::edits::{check_edited, check_purchase};
-use std::test::Fail;
+use super::cases::{Case, RUN};
+use super::purchase::{NO_CARD, OTHER_REPORT};
 
 const AMOUNT: &str = "amount = 1000\n";
 
@@ -11,23 +10,42 @@ const SCRIPTS: &str = "[[lanes.transactions.scripts]]\n";
 const UID: &str = "kind = \"A\"\nuid = \"01020304\"\n";
 
 /// The table of the purchase's card.
-const CARD: &str = "[[lanes.transactions.cards]]
-kind = \"A\"
-uid = \"01020304\"
-ppse = [\"6f23840e325041592e5359532e4444463031a511bf0c0e610c4f07a00000000310108701019000\"]
+const CARD: &str = r#"[[lanes.transactions.cards]]
+kind = "A"
+uid = "01020304"
+ppse = ["6f23840e325041592e5359532e4444463031a511bf0c0e610c4f07a00000000310108701019000"]
 [[lanes.transactions.cards.apps]]
-name = \"a0000000031010\"
-select = [\"6f098407a00000000310109000\"]
+name = "a0000000031010"
+select = ["6f098407a00000000310109000"]
 [[lanes.transactions.cards.apps.rules]]
-prefix = \"80a8\"
-responses = [\"80062000080101009000\"]
-";
+prefix = "80a8"
+responses = ["80062000080101009000"]
+"#;
 
-const NO_CARD: &str = "\
-1.1 start type=00 amount=1000
-1.1 pre 1 aid=a0000000031010 kernel=3 allowed=1 status=0 zero=0 floor=0 cvm=0 ttq=-
-1.1 message 15 Present card
-1.1 end nocard
+/// A second card of Type A with a directory and an application, before the scripts.
+const SECOND_OF_A: &str = r#"[[lanes.transactions.cards]]
+kind = "A"
+uid = "041122778899aa"
+ppse = ["6f23840e325041592e5359532e4444463031a511bf0c0e610c4f07a00000000310108701019000"]
+[[lanes.transactions.cards.apps]]
+name = "a0000000031010"
+select = ["6f098407a00000000310109000"]
+[[lanes.transactions.cards.apps.rules]]
+prefix = "80a8"
+responses = ["80062000080101009000"]
+[[lanes.transactions.scripts]]
+"#;
+
+/// A card of Type B beside the purchase's card, before the scripts.
+const SECOND_OF_B: &str = r#"[[lanes.transactions.cards]]
+kind = "B"
+pupi = "11223344"
+[[lanes.transactions.scripts]]
+"#;
+
+const FIRST_ALONE: &str = "\
+1.1 message 19 Please present one card only
+1.1 card A 04112233445566
 ";
 
 const COLLISIONS: &str = "\
@@ -38,63 +56,87 @@ const COLLISIONS: &str = "\
 1.1 end nocard
 ";
 
-#[test]
-fn no_card_in_the_field(rt: HostRuntime) -> Result<(), Fail> {
-    let document = [
-        (
-            "kernel = 3\n[[lanes]]",
-            "kernel = 3\nlimit = 1001\n[[lanes]]",
-        ),
-        (AMOUNT, "amount = 1000\ncards = []\n"),
-        (CARD, ""),
-    ];
-    check_purchase(&rt, &document, NO_CARD)
-}
-
-const FIRST_UID: &str = "kind = \"A\"\nuid = \"04112233445566\"\n";
-
-const SECOND_UID: &str = "kind = \"A\"\nuid = \"041122778899aa\"\n";
-
-const FIRST_ALONE: &str = "\
-1.1 message 19 Please present one card only
-1.1 card A 04112233445566
+/// The purchase with a card of Type B and with its trace.
+const TRACE_OF_B: &str = "\
+1.1 start type=00 amount=1000
+1.1 pre 1 aid=a0000000031010 kernel=3 allowed=1 status=0 zero=0 floor=0 cvm=0 ttq=-
+1.1 message 15 Present card
+x 1 S 52 0 -
+x 1 B 0500083973 0 =501122334400000000008140dc88
+x 1 B 1d1122334400080100db35 0 =0078f0
+1.1 card B 11223344
+x 1 B 0200a404000e325041592e5359532e4444463031002a2d 16 =026f23840e325041592e5359532e4444463031a511bf0c0e610c4f07a00000000310108701019000607c
+1.1 apdu 00a404000e325041592e5359532e444446303100 6f23840e325041592e5359532e4444463031a511bf0c0e610c4f07a00000000310108701019000
+1.1 candidates 1
+x 1 B 0300a4040007a0000000031010003e55 16 =036f098407a00000000310109000c73f
+1.1 apdu 00a4040007a000000003101000 6f098407a00000000310109000
+1.1 activate 3 combination=1 name=a0000000031010 ttq=- fci=6f098407a0000000031010
+x 1 B 0280a80000028300007300 16 =0280062000080101009000153b
+1.1 apdu 80a8000002830000 80062000080101009000
+1.1 outcome approved
+1.1 message 03 Approved
+x 1 B c26615 16 =c26615
+1.1 end done
+1.1 log 1 00a404000e325041592e5359532e444446303100
+1.1 log 1 00a4040007a000000003101000
+1.1 log 1 80a8000002830000
 ";
 
-#[test]
-fn two_cards_of_type_a(rt: HostRuntime) -> Result<(), Fail> {
-    let second = CARD.replace(rt.alloc(), UID, SECOND_UID)?;
-    let scripts = format!(in rt.alloc(); "{second}{SCRIPTS}")?;
-    let document = [
-        (AMOUNT, "amount = 1000\npresence = [[1, 2], [1]]\n"),
-        (UID, FIRST_UID),
-        (SCRIPTS, scripts.as_str()),
-    ];
-    check_edited(&rt, &document, &[("1.1 card A 01020304\n", FIRST_ALONE)])
-}
-
-/// A card of Type B beside the purchase's card.
-const OTHER_TYPE: &str = "[[lanes.transactions.cards]]
-kind = \"B\"
-pupi = \"11223344\"
-[[lanes.transactions.scripts]]
-";
-
-#[test]
-fn cards_of_both_types(rt: HostRuntime) -> Result<(), Fail> {
-    check_purchase(&rt, &[(SCRIPTS, OTHER_TYPE)], COLLISIONS)
-}
-
-#[test]
-fn a_second_card_whose_answer_is_lost(rt: HostRuntime) -> Result<(), Fail> {
-    let document = [
-        (AMOUNT, "amount = 1000\nfates = [2, \"- x\"]\n"),
-        (SCRIPTS, OTHER_TYPE),
-    ];
-    check_purchase(&rt, &document, REPORT)
-}
-
-#[test]
-fn a_card_of_type_b(rt: HostRuntime) -> Result<(), Fail> {
-    let document = [(UID, "kind = \"B\"\npupi = \"11223344\"\n")];
-    check_edited(&rt, &document, &[("card A 01020304", "card B 11223344")])
-}
+pub const CASES: &[Case] = &[
+    Case {
+        name: "an application of another name",
+        edits: &[("name = \"a0000000031010\"", "name = \"a0000000031011\"")],
+        text: &[OTHER_REPORT],
+        ..RUN
+    },
+    Case {
+        name: "no card in the field",
+        edits: &[
+            (
+                "kernel = 3\n[[lanes]]",
+                "kernel = 3\nlimit = 1001\n[[lanes]]",
+            ),
+            (AMOUNT, "amount = 1000\ncards = []\n"),
+            (CARD, ""),
+        ],
+        text: &[NO_CARD],
+        ..RUN
+    },
+    Case {
+        name: "two cards of Type A",
+        edits: &[
+            (AMOUNT, "amount = 1000\npresence = [[1, 2], [1]]\n"),
+            (UID, "kind = \"A\"\nuid = \"04112233445566\"\n"),
+            (SCRIPTS, SECOND_OF_A),
+        ],
+        changes: &[("1.1 card A 01020304\n", FIRST_ALONE)],
+        ..RUN
+    },
+    Case {
+        name: "cards of both types",
+        edits: &[(SCRIPTS, SECOND_OF_B)],
+        text: &[COLLISIONS],
+        ..RUN
+    },
+    Case {
+        name: "a second card whose answer is lost",
+        edits: &[
+            (AMOUNT, "amount = 1000\nfates = [2, \"- x\"]\n"),
+            (SCRIPTS, SECOND_OF_B),
+        ],
+        ..RUN
+    },
+    Case {
+        name: "a card of Type B",
+        edits: &[(UID, "kind = \"B\"\npupi = \"11223344\"\n")],
+        changes: &[("card A 01020304", "card B 11223344")],
+        ..RUN
+    },
+    Case {
+        name: "the trace of a card of Type B",
+        words: &["run", "trace"],
+        edits: &[(UID, "kind = \"B\"\npupi = \"11223344\"\n")],
+        text: &[TRACE_OF_B],
+        ..RUN
+    },
+];

@@ -1,14 +1,10 @@
 //! Purchases whose kernels ask for another application or for the card again, several purchases, and a usual one.
 
-use super::REPORT;
-use super::edits::{check_edited, check_purchase, check_report, check_two, edited};
-use std::test::Fail;
-
-const SCRIPT: &str = "[[lanes.transactions.scripts]]
-kernel = 3
-steps = [{send = \"80a8000002830000\"}]
-outcome = \"approved 03\"
-";
+use super::cases::{Case, RUN};
+use super::purchase::{
+    APPLICATION, CARD, COMBINATION, DIRECTORY, LANE, NO_DIRECTORY, REPORT, SCRIPT,
+    UNSCRIPTED_REPORT, VERSION,
+};
 
 const RESTARTS: &str = "\
 1.1 start type=00 amount=1000
@@ -39,76 +35,50 @@ const RESTARTS: &str = "\
 1.1 log 1 00a4040007a000000003101000
 ";
 
-#[test]
-fn the_next_application_and_the_card_again(rt: HostRuntime) -> Result<(), Fail> {
-    let name = "name = \"a0000000031010\"
-select = [\"6f098407a00000000310109000\"]
-";
-    let names = "name = \"a0000000031010\"
-select = [\"9000\"]
+/// The one name of the purchase's card, and the two of another one.
+const ONE_NAME: &str = r#"name = "a0000000031010"
+select = ["6f098407a00000000310109000"]
+"#;
+
+const TWO_NAMES: &str = r#"name = "a0000000031010"
+select = ["9000"]
 [[lanes.transactions.cards.apps]]
-name = \"a00000000310100102\"
-select = [\"9000\"]
-";
-    let scripts = "[[lanes.transactions.scripts]]
+name = "a00000000310100102"
+select = ["9000"]
+"#;
+
+const THREE_SCRIPTS: &str = r#"[[lanes.transactions.scripts]]
 kernel = 3
-outcome = \"select-next\"
+outcome = "select-next"
 [[lanes.transactions.scripts]]
 kernel = 3
-outcome = \"try-again 21\"
+outcome = "try-again 21"
 [[lanes.transactions.scripts]]
 kernel = 3
-outcome = \"approved 03\"
+outcome = "approved 03"
+"#;
+
+/// What the lane's second purchase writes.
+pub const SECOND: &str = "\
+1.2 start type=00 amount=1000
+1.2 pre 1 aid=a0000000031010 kernel=3 allowed=1 status=0 zero=0 floor=0 cvm=0 ttq=-
+1.2 message 15 Present card
+1.2 card A 01020304
+1.2 apdu 00a404000e325041592e5359532e444446303100 6f23840e325041592e5359532e4444463031a511bf0c0e610c4f07a00000000310108701019000
+1.2 candidates 1
+1.2 apdu 00a4040007a000000003101000 6f098407a00000000310109000
+1.2 activate 3 combination=1 name=a0000000031010 ttq=- fci=6f098407a0000000031010
+1.2 apdu 80a8000002830000 80062000080101009000
+1.2 outcome approved
+1.2 message 03 Approved
+1.2 end done
+1.2 log 1 00a404000e325041592e5359532e444446303100
+1.2 log 1 00a4040007a000000003101000
+1.2 log 1 80a8000002830000
 ";
-    let document = [
-        ("aid = \"a0000000031010\"", "aid = \"a000000003\""),
-        (
-            "6f23840e325041592e5359532e4444463031a511bf0c0e610c4f07a00000000310108701019000",
-            "6f2d840e325041592e5359532e4444463031a51bbf0c1861094f07a0000000031010610b4f09a000000003101001029000",
-        ),
-        (name, names),
-        (SCRIPT, scripts),
-    ];
-    check_purchase(&rt, &document, RESTARTS)
-}
 
-#[test]
-fn a_kernel_without_script(rt: HostRuntime) -> Result<(), Fail> {
-    let report = [
-        ("1.1 apdu 80a8000002830000 80062000080101009000\n", ""),
-        (
-            "1.1 outcome approved\n1.1 message 03 Approved\n",
-            "1.1 outcome end\n",
-        ),
-        ("1.1 log 1 80a8000002830000\n", ""),
-    ];
-    check_edited(&rt, &[(SCRIPT, "")], &report)
-}
-
-#[test]
-fn a_status_word_that_is_not_wanted(rt: HostRuntime) -> Result<(), Fail> {
-    let document = [(
-        "{send = \"80a8000002830000\"}",
-        "{send = \"80a8000002830000\", want = \"6283\", other = \"declined 07\"}",
-    )];
-    let report = [
-        ("outcome approved", "outcome declined"),
-        ("message 03 Approved", "message 07 Not authorised"),
-    ];
-    check_edited(&rt, &document, &report)
-}
-
-#[test]
-fn two_purchases(rt: HostRuntime) -> Result<(), Fail> {
-    let second = edited(&rt, REPORT, &[("1.1 ", "1.2 ")])?;
-    check_two(&rt, &[], &[], REPORT, second.as_str())
-}
-
-#[test]
-fn a_second_card_without_directory(rt: HostRuntime) -> Result<(), Fail> {
-    let directory =
-        "6f23840e325041592e5359532e4444463031a511bf0c0e610c4f07a00000000310108701019000";
-    let second = "\
+/// The same with a card that has no directory.
+const SECOND_UNDIRECTED: &str = "\
 1.2 start type=00 amount=1000
 1.2 pre 1 aid=a0000000031010 kernel=3 allowed=1 status=0 zero=0 floor=0 cvm=0 ttq=-
 1.2 message 15 Present card
@@ -120,9 +90,6 @@ fn a_second_card_without_directory(rt: HostRuntime) -> Result<(), Fail> {
 1.2 end done
 1.2 log 1 00a404000e325041592e5359532e444446303100
 ";
-    let list = format!(in rt.alloc(); "[\"{directory}\"]")?;
-    check_two(&rt, &[], &[(list.as_str(), "[]")], REPORT, second)
-}
 
 /// A purchase of 25.00 with two schemes, a card with a UID of seven bytes, and a kernel that asks to go online.
 const USUAL: &str = r#"
@@ -186,7 +153,79 @@ const USUAL_REPORT: &str = "\
 1.1 log 1 00b2010c00
 ";
 
-#[test]
-fn a_usual_purchase(rt: HostRuntime) -> Result<(), Fail> {
-    check_report(&rt, USUAL, USUAL_REPORT)
-}
+pub const CASES: &[Case] = &[
+    Case {
+        name: "the next application and the card again",
+        edits: &[
+            ("aid = \"a0000000031010\"", "aid = \"a000000003\""),
+            (
+                "6f23840e325041592e5359532e4444463031a511bf0c0e610c4f07a00000000310108701019000",
+                "6f2d840e325041592e5359532e4444463031a51bbf0c1861094f07a0000000031010610b4f09a000000003101001029000",
+            ),
+            (ONE_NAME, TWO_NAMES),
+            (SCRIPT, THREE_SCRIPTS),
+        ],
+        text: &[RESTARTS],
+        ..RUN
+    },
+    Case {
+        name: "a kernel without a script",
+        edits: &[(SCRIPT, "")],
+        text: &[UNSCRIPTED_REPORT],
+        ..RUN
+    },
+    Case {
+        name: "a status word that isn't wanted",
+        edits: &[(
+            "{send = \"80a8000002830000\"}",
+            "{send = \"80a8000002830000\", want = \"6283\", other = \"declined 07\"}",
+        )],
+        changes: &[
+            ("outcome approved", "outcome declined"),
+            ("message 03 Approved", "message 07 Not authorised"),
+        ],
+        ..RUN
+    },
+    Case {
+        name: "two purchases",
+        document: &[
+            VERSION,
+            COMBINATION,
+            LANE,
+            CARD,
+            DIRECTORY,
+            APPLICATION,
+            SCRIPT,
+            CARD,
+            DIRECTORY,
+            APPLICATION,
+            SCRIPT,
+        ],
+        text: &[REPORT, SECOND],
+        ..RUN
+    },
+    Case {
+        name: "a second card without a directory",
+        document: &[
+            VERSION,
+            COMBINATION,
+            LANE,
+            CARD,
+            DIRECTORY,
+            APPLICATION,
+            SCRIPT,
+            CARD,
+            NO_DIRECTORY,
+            APPLICATION,
+            SCRIPT,
+        ],
+        text: &[REPORT, SECOND_UNDIRECTED],
+        ..RUN
+    },
+    Case {
+        name: "a usual purchase",
+        document: &[USUAL],
+        text: &[USUAL_REPORT],
+        ..RUN
+    },
+];

@@ -1,15 +1,16 @@
 -- How many commands and Start Bs a talk has at most (this project's own).
-use Rattle.std.specs.Prelude.{ℕ, ◌+◌, ◌-◌, ◌*◌, ◌<◌, ◌≤◌, List, [], ◌∷◌, length}
+use Rattle.std.specs.Prelude.{ℕ, ◌+◌, ◌-◌, ◌*◌, ◌<◌, ◌≤◌, List, [], ◌∷◌}
+use Rattle.ep_base.specs.declared.limits.TheConstants.{NAMED}
 use Rattle.ep_base.specs.Air.Heard.{RoundEnd, Empty, Collision, Unsupported, Broken, Found}
-use Rattle.ep_rules.specs.EntryPoint.Event.{Said, Tells, Apdu, End, EndLink, EndBreach}
-use Rattle.ep_rules.specs.EntryPoint.Talk.{Talk, Over, Say, Poll, Command, Close, Result, Round, Response, Closed, Wish, Polls, Commands, Closes, Nothing, so_far}
+use Rattle.ep_rules.specs.EntryPoint.Event.{Event as EventData, Tells, Apdu, End, EndLink, EndBreach}
+use Rattle.ep_rules.specs.EntryPoint.Talk.{Talk, Over, Say, Poll, Command, Close, Result, Wish, Polls, Commands, Closes, Nothing, so_far}
 
--- Whatever rounds end with, and whatever responses of at most 258 bytes come, it wishes at most n commands.
+-- Whatever rounds end with, and whatever responses come, it wishes at most n commands.
 abbrev pub AtMost : ℕ → Talk → Type 0
 AtMost n (Over ending) = Unit {0}
 AtMost n (Say what next) = AtMost n next
 AtMost n (Poll next) = (e : RoundEnd) → AtMost n (next e)
-AtMost n (Command command next) = (0 < n) × ((r : List ℕ) → length r ≤ 258 → AtMost (n - 1) (next r))
+AtMost n (Command command next) = (0 < n) × ((r : List ℕ) → AtMost (n - 1) (next r))
 AtMost n (Close next) = AtMost n next
 
 -- A round that finds a card ends its Start B.
@@ -29,7 +30,7 @@ AtMostStarts n (Command command next) = (r : List ℕ) → AtMostStarts n (next 
 AtMostStarts n (Close next) = AtMostStarts n next
 
 -- How many commands were answered, and whether one is wished.
-abbrev pub apdus : List Said → ℕ
+abbrev pub apdus : List EventData → ℕ
 apdus [] = 0
 apdus ((Tells what) ∷ xs) = apdus xs
 apdus ((Apdu command response) ∷ xs) = 1 + apdus xs
@@ -43,19 +44,13 @@ commands_wished (Commands command) = 1
 commands_wished Closes = 0
 commands_wished Nothing = 0
 
-abbrev pub AreShortResults : List Result → Type 0
-AreShortResults [] = Unit {0}
-AreShortResults ((Round ending) ∷ results) = AreShortResults results
-AreShortResults ((Response r) ∷ results) = (length r ≤ 258) × AreShortResults results
-AreShortResults (Closed ∷ results) = AreShortResults results
-
 -- For all results so far, the commands that were answered and the one that is wished are at most n.
 abbrev pub FewApdus : Type 0
 FewApdus =
-    (talk : Talk) (n : ℕ) (results : List Result) → AtMost n talk → AreShortResults results
+    (talk : Talk) (n : ℕ) (results : List Result) → AtMost n talk
     → apdus (so_far talk results).events + commands_wished (so_far talk results).wish ≤ n
 
 -- The most commands of a transaction with so many restarts, Combinations and commands of kernels: in each Start B one to the directory and one
 -- for each candidate.
 abbrev pub log_bound : (restarts combinations commands : ℕ) → ℕ
-log_bound restarts combinations commands = (1 + restarts) * (1 + 28 * combinations) + commands
+log_bound restarts combinations commands = (1 + restarts) * (1 + NAMED * combinations) + commands

@@ -1,10 +1,11 @@
 -- Start C, Combination Selection (after EMV Contactless Book B; ties, requested kernel 0 and the priority key 16 are this project's profile).
-use Rattle.std.specs.Prelude.{ℕ, ◌+◌, ◌*◌, ◌/◌, ◌%◌, ◌==◌, ◌&&◌, ◌||◌, nat_lt, nat_le, nat_eq, Bool, true, false, List, [], ◌∷◌, ◌++◌, length, if◌then◌else◌, Some, None}
+use Rattle.std.specs.Prelude.{ℕ, ◌+◌, ◌*◌, ◌%◌, ◌==◌, ◌&&◌, ◌||◌, nat_lt, nat_le, nat_eq, Bool, false, List, [], ◌∷◌, ◌++◌, length, if◌then◌else◌, Some, None}
 use Rattle.std.specs.declared.option.Option.{Option}
 use Rattle.std.specs.List.{starts_with}
+use Rattle.ep_base.specs.declared.limits.TheConstants.{NAMED}
 use Rattle.ep_base.specs.Cards.Apdu.{select}
 use Rattle.ep_rules.specs.EntryPoint.Configuration.{Combination}
-use Rattle.ep_rules.specs.EntryPoint.PreProcessing.{Ready, is_allowed}
+use Rattle.ep_rules.specs.EntryPoint.PreProcessing.{PreparedOne, is_allowed}
 use Rattle.ep_base.specs.Objects.Directory.{Entry, is_named}
 
 -- The kernel that the first five bytes of an ADF Name ask for, and 0 for any other (after EMV Contactless Book B).
@@ -40,7 +41,7 @@ fits_name e c None = false
 fits_name e c (Some name) = starts_with nat_eq name c.aid && asks_for (requested_by name e.kernel) c.kernel
 
 -- An entry with an ADF Name of 5 to 16 bytes and an allowed Combination that fit each other.
-abbrev pub fits : Entry → Ready → Bool
+abbrev pub fits : Entry → PreparedOne → Bool
 fits e one = is_allowed one && (is_named e && fits_name e one.combination e.name)
 
 -- The low nibble of the first byte of 87; 0, an empty and an absent 87 are 16.
@@ -63,9 +64,9 @@ pub record Candidate : Type 0 where
   pub key : ℕ
   pub name : List ℕ
   pub extension : Option (List ℕ)
-  pub one : Ready
+  pub one : PreparedOne
 
-abbrev pub candidate_of : ℕ → Entry → ℕ → Ready → Candidate
+abbrev pub candidate_of : ℕ → Entry → ℕ → PreparedOne → Candidate
 candidate_of entry e combination one = record {
   entry = entry;
   combination = combination;
@@ -76,15 +77,24 @@ candidate_of entry e combination one = record {
 }
 
 -- The Combinations, numbered from n, that fit the entry with this number.
-abbrev pub pairs_of : ℕ → Entry → ℕ → List Ready → List Candidate
+abbrev pub pairs_of : ℕ → Entry → ℕ → List PreparedOne → List Candidate
 pairs_of entry e n [] = []
 pairs_of entry e n (one ∷ ones) =
     if fits e one then candidate_of entry e n one ∷ pairs_of entry e (n + 1) ones else pairs_of entry e (n + 1) ones
 
--- All pairs of the entries, numbered from n, and the Combinations.
-abbrev pub pairs_from : ℕ → List Entry → List Ready → List Candidate
-pairs_from n [] ones = []
-pairs_from n (e ∷ es) ones = pairs_of n e 1 ones ++ pairs_from (n + 1) es ones
+-- The pairs of the entry with this number, where fewer than 28 earlier entries have an ADF Name of 5 to 16 bytes, and else none (this
+-- project's own).
+abbrev pub pairs_after : ℕ → ℕ → Entry → List PreparedOne → List Candidate
+pairs_after named entry e ones = if nat_lt named NAMED then pairs_of entry e 1 ones else []
+
+-- How many entries have such a name, this one among them.
+abbrev pub named_with : ℕ → Entry → ℕ
+named_with named e = if is_named e then named + 1 else named
+
+-- All pairs of the entries, numbered from n, and the Combinations, where so many earlier entries have such a name.
+abbrev pub pairs_from : ℕ → ℕ → List Entry → List PreparedOne → List Candidate
+pairs_from named n [] ones = []
+pairs_from named n (e ∷ es) ones = pairs_after named n e ones ++ pairs_from (named_with named e) (n + 1) es ones
 
 -- By the triple of priority key, entry number and Combination number.
 abbrev pub is_before : Candidate → Candidate → Bool
@@ -102,8 +112,8 @@ in_order [] = []
 in_order (c ∷ cs) = put_in c (in_order cs)
 
 -- The candidates of a directory and of Pre-Processing's list, in their order.
-unfoldable pub candidates : List Ready → List Entry → List Candidate
-candidates ones entries = in_order (pairs_from 1 entries ones)
+unfoldable pub candidates : List PreparedOne → List Entry → List Candidate
+candidates ones entries = in_order (pairs_from 0 1 entries ones)
 
 -- The name in the final SELECT: the value of 9F29 follows where the Combination supports it and both have at most 16 bytes.
 abbrev pub extended_name : List ℕ → Bool → Option (List ℕ) → List ℕ

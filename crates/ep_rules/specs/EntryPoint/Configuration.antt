@@ -2,7 +2,7 @@
 use Rattle.std.specs.Prelude.{◌≡◌, ℕ, ◌≤◌, ◌==◌, List, length, count_by, All, Bool}
 use Rattle.std.specs.Option.{ForSome}
 use Rattle.std.specs.declared.option.Option.{Option}
-use Rattle.ep_base.specs.declared.limits.TheConstants.{TYPE_COMBINATIONS}
+use Rattle.ep_base.specs.declared.limits.TheConstants.{COMBINATIONS, TYPE_COMBINATIONS}
 
 -- A Combination: an application that the acquirer accepts, the kernel that serves it, and its limits in minor units.
 pub record Combination : Type 0 where
@@ -44,10 +44,10 @@ pub record IsCombination (c : Combination) : Type 0 where
 abbrev pub count_of : ℕ → List Combination → ℕ
 count_of txn_type list = count_by (λ (c : Combination). c.txn_type == txn_type) list
 
--- At most 64 Combinations within their limits, and at most 16 of a transaction type.
+-- At most `COMBINATIONS` Combinations within their limits, and at most `TYPE_COMBINATIONS` of a transaction type.
 pub record AreCombinations (list : List Combination) : Type 0 where
   pub each : All IsCombination list
-  pub count : length list ≤ 64
+  pub count : length list ≤ COMBINATIONS
   pub of_a_type : (txn_type : ℕ) → count_of txn_type list ≤ TYPE_COMBINATIONS
 
 -- A configuration within its limits (this project's profile).

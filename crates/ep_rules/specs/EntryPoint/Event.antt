@@ -4,7 +4,7 @@ use Rattle.std.specs.declared.option.Option.{Option}
 use Rattle.ep_base.specs.declared.air.CardKind.{CardKind}
 use Rattle.ep_base.specs.declared.outcome.OutcomeKind.{OutcomeKind}
 use Rattle.ep_base.specs.declared.outcome.Message.{Message}
-use Rattle.ep_rules.specs.EntryPoint.PreProcessing.{Indicators, Ready}
+use Rattle.ep_rules.specs.EntryPoint.PreProcessing.{Indicators, PreparedOne}
 
 -- What a kernel is given: its Kernel ID, the Combination's number, the ADF Name, what Pre-Processing found, and the data of the final SELECT.
 pub record Activation : Type 0 where
@@ -21,14 +21,14 @@ pub record Verdict : Type 0 where
   pub message : Option Message
 
 -- What a transaction tells by itself.
-pub data Told : Type 0 where
-  Start : (txn_type amount : ℕ) → Told
-  Pre : (number : ℕ) → (one : Ready) → Told
-  Notice : (message : Message) → Told
-  Card : (kind : CardKind) → (id : List ℕ) → Told
-  Candidates : (count : ℕ) → Told
-  Activate : (given : Activation) → Told
-  Outcome : (kind : OutcomeKind) → Told
+pub data OwnEvent : Type 0 where
+  Start : (txn_type amount : ℕ) → OwnEvent
+  Pre : (number : ℕ) → (one : PreparedOne) → OwnEvent
+  Notice : (message : Message) → OwnEvent
+  Card : (kind : CardKind) → (id : List ℕ) → OwnEvent
+  Candidates : (count : ℕ) → OwnEvent
+  Activate : (given : Activation) → OwnEvent
+  Outcome : (kind : OutcomeKind) → OwnEvent
 
 -- The ends that the rules of Entry Point give.
 pub data Ending : Type 0 where
@@ -36,9 +36,9 @@ pub data Ending : Type 0 where
   NoCard : Ending
 
 -- An event. The last two come from the link alone.
-pub data Said : Type 0 where
-  Tells : (what : Told) → Said
-  Apdu : (command response : List ℕ) → Said
-  End : (ending : Ending) → Said
-  EndLink : Said
-  EndBreach : Said
+pub data Event : Type 0 where
+  Tells : (what : OwnEvent) → Event
+  Apdu : (command response : List ℕ) → Event
+  End : (ending : Ending) → Event
+  EndLink : Event
+  EndBreach : Event

@@ -1,5 +1,5 @@
 -- Kernels, and those that follow scripts (this project's own).
-use Rattle.std.specs.Prelude.{ℕ, ◌+◌, ◌==◌, Bool, true, false, List, [], ◌∷◌, length, Some, None, if◌then◌else◌}
+use Rattle.std.specs.Prelude.{ℕ, ◌+◌, ◌==◌, List, [], ◌∷◌, length, Some, None, if◌then◌else◌}
 use Rattle.std.specs.declared.option.Option.{Option}
 use Rattle.ep_base.specs.declared.outcome.OutcomeKind.TheVariants.{EndApplication}
 use Rattle.ep_base.specs.Cards.Apdu.{status_of}
@@ -75,15 +75,15 @@ abbrev pub scripted_begin : List Script → ℕ → Scripted
 scripted_begin scripts kernel = record { scripts = without_script kernel scripts; running = begun (script_for kernel scripts) }
 
 -- The next step, or the verdict.
-abbrev pub goes_on : Verdict → List Step → KernelStep × Option Running
-goes_on verdict [] = (Done verdict, None)
-goes_on verdict (x ∷ steps) = (Send x.send, Some (record { awaited = Some (record { want = x.want; other = x.other }); steps = steps; verdict = verdict }))
+abbrev pub next_step : Verdict → List Step → KernelStep × Option Running
+next_step verdict [] = (Done verdict, None)
+next_step verdict (x ∷ steps) = (Send x.send, Some (record { awaited = Some (record { want = x.want; other = x.other }); steps = steps; verdict = verdict }))
 
 -- What follows an answer to the step that was sent.
 abbrev pub answered : Verdict → List Step → Option Awaited → Option (List ℕ) → KernelStep × Option Running
-answered verdict steps None last = goes_on verdict steps
-answered verdict steps (Some x) None = goes_on verdict steps
-answered verdict steps (Some x) (Some r) = if status_of r == x.want then goes_on verdict steps else (Done x.other, None)
+answered verdict steps None last = next_step verdict steps
+answered verdict steps (Some x) None = next_step verdict steps
+answered verdict steps (Some x) (Some r) = if status_of r == x.want then next_step verdict steps else (Done x.other, None)
 
 -- End Application without a message.
 abbrev pub no_verdict : Verdict

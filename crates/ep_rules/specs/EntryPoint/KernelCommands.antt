@@ -11,19 +11,19 @@ IsSent (Send command) = is_command command ≡ true
 IsSent (Done verdict) = Unit {0}
 
 -- A kernel is begun, or takes a step.
-pub data Call : Type 0 where
-  Begins : (given : Activation) → Call
-  Steps : (last : Option (List ℕ)) → Call
+pub data KernelCall : Type 0 where
+  Begins : (given : Activation) → KernelCall
+  Steps : (last : Option (List ℕ)) → KernelCall
 
 -- Its state after these calls.
-abbrev pub called : {S : Type 0} → KernelSteps S → S → List Call → S
+abbrev pub called : {S : Type 0} → KernelSteps S → S → List KernelCall → S
 called k s [] = s
 called k s ((Begins given) ∷ calls) = called k (k.begin s given) calls
 called k s ((Steps last) ∷ calls) = called k (k.step s last).1 calls
 
 -- From this state on, after whatever calls, what it sends is a command.
 abbrev pub SendsCommands : {S : Type 0} → KernelSteps S → S → Type 0
-SendsCommands k s = (calls : List Call) (last : Option (List ℕ)) → IsSent (k.step (called k s calls) last).0
+SendsCommands k s = (calls : List KernelCall) (last : Option (List ℕ)) → IsSent (k.step (called k s calls) last).0
 
 -- The steps of these scripts send commands.
 abbrev pub StepsSend : List Step → Type 0

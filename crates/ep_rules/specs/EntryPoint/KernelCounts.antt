@@ -1,5 +1,5 @@
 -- Kernels whose counts of commands and restarts fall (this project's own).
-use Rattle.std.specs.Prelude.{ℕ, ◌<◌, ◌≤◌, List, Some, None}
+use Rattle.std.specs.Prelude.{ℕ, ◌<◌, ◌≤◌, List}
 use Rattle.std.specs.declared.option.Option.{Option}
 use Rattle.ep_base.specs.declared.outcome.OutcomeKind.{OutcomeKind}
 use Rattle.ep_base.specs.declared.outcome.OutcomeKind.TheVariants.{SelectNext, TryAgain, Approved, Declined, OnlineRequest, TryAnother, EndApplication}

@@ -2,7 +2,7 @@
 use Rattle.std.specs.Prelude.{ℕ, List, [], ◌∷◌, Some, None}
 use Rattle.std.specs.declared.option.Option.{Option}
 use Rattle.ep_base.specs.Air.Heard.{RoundEnd, Empty, Collision, Unsupported, Broken, Found}
-use Rattle.ep_rules.specs.EntryPoint.Event.{Said}
+use Rattle.ep_rules.specs.EntryPoint.Event.{Event as EventData}
 use Rattle.ep_rules.specs.EntryPoint.Talk.{Result, Round, Response, Closed, Talk, Over, Say, Poll, Command, Close, so_far}
 use Rattle.ep_base.specs.Cards.Images.{Rules, stored}
 
@@ -30,8 +30,8 @@ nothing = record { results = []; commands = [] }
 abbrev pub gave : Result → Perfect → Perfect
 gave result p = record { results = result ∷ p.results; commands = p.commands }
 
-abbrev pub executes : ℕ → List ℕ → Perfect → Perfect
-executes n command p = record { results = p.results; commands = (n, command) ∷ p.commands }
+abbrev pub with_command : ℕ → List ℕ → Perfect → Perfect
+with_command n command p = record { results = p.results; commands = (n, command) ∷ p.commands }
 
 -- It stops where the ends run out.
 abbrev pub at_poll : {S : Type 0} → Rules S → Channel S → (RoundEnd → List RoundEnd → Channel S → Perfect) → List RoundEnd → Perfect
@@ -42,7 +42,7 @@ abbrev pub at_command : {S : Type 0} → Rules S → Channel S → List ℕ → 
 at_command rules ch command next None = nothing
 at_command rules ch command next (Some n) =
     let a = rules.answers n (ch.images n) command in
-    executes n command (gave (Response a.0.response) (next a.0.response (record { images = stored n a.1 ch.images; presented = Some n })))
+    with_command n command (gave (Response a.0.response) (next a.0.response (record { images = stored n a.1 ch.images; presented = Some n })))
 
 -- The results, and the commands with their cards, for these ends of rounds.
 abbrev pub perfect : {S : Type 0} → Rules S → Talk → List RoundEnd → Channel S → Perfect
@@ -56,5 +56,5 @@ abbrev pub channel : {S : Type 0} → (ℕ → S) → Channel S
 channel images = record { images = images; presented = None }
 
 -- The events of the perfect run for these ends.
-abbrev pub perfect_events : {S : Type 0} → Rules S → Talk → List RoundEnd → (ℕ → S) → List Said
+abbrev pub perfect_events : {S : Type 0} → Rules S → Talk → List RoundEnd → (ℕ → S) → List EventData
 perfect_events rules talk ends images = (so_far talk (perfect rules talk ends (channel images)).results).events

@@ -1,5 +1,5 @@
 -- Start A, Pre-Processing (after EMV Contactless Book B; the choices on zero amounts and on the order of the TTQ bits are this project's profile).
-use Rattle.std.specs.Prelude.{ℕ, ◌+◌, ◌%◌, ◌^◌, ◌==◌, ◌&&◌, ◌||◌, not, nat_le, nat_lt, Bool, true, false, List, map, filter, [], ◌∷◌, slice_index, slice_set, bit_and, if◌then◌else◌, Some, None}
+use Rattle.std.specs.Prelude.{ℕ, ◌+◌, ◌%◌, ◌^◌, ◌==◌, ◌&&◌, ◌||◌, not, nat_le, nat_lt, Bool, false, List, map, filter, [], ◌∷◌, slice_index, slice_set, bit_and, if◌then◌else◌, Some, None}
 use Rattle.std.specs.declared.option.Option.{Option}
 use Rattle.ep_rules.specs.EntryPoint.Configuration.{Combination, Config}
 
@@ -12,7 +12,7 @@ pub record Indicators : Type 0 where
   pub cvm : Bool
 
 -- A Combination after Pre-Processing, with its own copy of the TTQ.
-pub record Ready : Type 0 where
+pub record PreparedOne : Type 0 where
   pub combination : Combination
   pub indicators : Indicators
   pub ttq : Option (List ℕ)
@@ -66,7 +66,7 @@ abbrev pub marked : Indicators → Option (List ℕ) → Option (List ℕ)
 marked i None = None
 marked i (Some ttq) = Some (slice_set ttq 1 (second_byte i (Some ttq) (slice_index ttq 1)))
 
-abbrev pub prepared_one : ℕ → ℕ → Combination → Ready
+abbrev pub prepared_one : ℕ → ℕ → Combination → PreparedOne
 prepared_one exponent amount c = record {
   combination = c;
   indicators = indicators exponent amount c;
@@ -74,14 +74,14 @@ prepared_one exponent amount c = record {
 }
 
 -- Each Combination of the transaction type, in the configuration's order.
-abbrev pub prepared : Config → ℕ → ℕ → List Ready
+abbrev pub prepared : Config → ℕ → ℕ → List PreparedOne
 prepared settings txn_type amount =
     map (prepared_one settings.exponent amount) (filter (λ (c : Combination). c.txn_type == txn_type) settings.list)
 
-abbrev pub is_allowed : Ready → Bool
+abbrev pub is_allowed : PreparedOne → Bool
 is_allowed one = not one.indicators.not_allowed
 
 -- Some Combination is allowed.
-abbrev pub any_allowed : List Ready → Bool
+abbrev pub any_allowed : List PreparedOne → Bool
 any_allowed [] = false
 any_allowed (one ∷ ones) = is_allowed one || any_allowed ones

@@ -1,8 +1,8 @@
 -- A transaction as the talk that it holds, and what it says and wishes by the results so far (this project's own form).
-use Rattle.std.specs.Prelude.{◌≡◌, ℕ, zero, suc, Bool, true, false, List, [], ◌∷◌, ◌++◌}
+use Rattle.std.specs.Prelude.{◌≡◌, ℕ, zero, suc, Bool, true, false, List, [], ◌∷◌}
 use Rattle.ep_base.specs.declared.outcome.Message.{Message}
 use Rattle.ep_base.specs.Air.Heard.{Activated, RoundEnd, Empty, Collision, Unsupported, Broken, Found}
-use Rattle.ep_rules.specs.EntryPoint.Event.{Told, Notice, Ending, NoCard, Said, Tells, Apdu, End}
+use Rattle.ep_rules.specs.EntryPoint.Event.{OwnEvent, Notice, Ending, NoCard, Event as EventData, Tells, Apdu, End}
 
 -- The end of a poll round, a response, or that the presentation was closed.
 pub data Result : Type 0 where
@@ -19,17 +19,17 @@ pub data Wish : Type 0 where
 -- What it says and wishes, with how it goes on after each result. Each response is said with its command.
 pub data Talk : Type 0 where
   Over : (ending : Ending) → Talk
-  Say : (what : Told) → (next : Talk) → Talk
+  Say : (what : OwnEvent) → (next : Talk) → Talk
   Poll : (next : RoundEnd → Talk) → Talk
   Command : (command : List ℕ) → (next : List ℕ → Talk) → Talk
   Close : (next : Talk) → Talk
 
 -- The events so far, and the wish.
 pub record SoFar : Type 0 where
-  pub events : List Said
+  pub events : List EventData
   pub wish : Wish
 
-abbrev pub after_event : Said → SoFar → SoFar
+abbrev pub after_event : EventData → SoFar → SoFar
 after_event event s = record { events = event ∷ s.events; wish = s.wish }
 
 abbrev pub waits : Wish → SoFar

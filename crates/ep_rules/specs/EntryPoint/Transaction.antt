@@ -6,7 +6,7 @@ use Rattle.ep_base.specs.declared.outcome.OutcomeKind.TheVariants.{SelectNext, T
 use Rattle.ep_base.specs.declared.outcome.Message.{Message}
 use Rattle.ep_base.specs.declared.outcome.Message.TheVariants.{PresentCard, InsertOrSwipe, OneCardOnly, TryAnotherCard}
 use Rattle.ep_base.specs.Cards.Apdu.{select, ppse_name, data_of, is_9000}
-use Rattle.ep_rules.specs.EntryPoint.PreProcessing.{Ready, any_allowed}
+use Rattle.ep_rules.specs.EntryPoint.PreProcessing.{PreparedOne, any_allowed}
 use Rattle.ep_base.specs.Objects.Directory.{directory}
 use Rattle.ep_rules.specs.EntryPoint.Candidates.{Candidate, candidates, final_command}
 use Rattle.ep_base.specs.Air.Heard.{Activated}
@@ -15,13 +15,9 @@ use Rattle.ep_rules.specs.EntryPoint.Kernel.{KernelStep, Send, Done, KernelSteps
 use Rattle.ep_rules.specs.EntryPoint.Talk.{Talk, Over, Say, Command, Close, rounds}
 use Rattle.ep_base.specs.declared.limits.TheConstants.{ROUNDS}
 
--- The most poll rounds of one Start B (this project's profile).
-abbrev pub most_rounds : ℕ
-most_rounds = ROUNDS
-
--- Start B: the card that a round finds, or the end after the last round.
+-- Start B: the card that a round finds, or the end after the last of at most `ROUNDS` rounds (their number is this project's profile).
 unfoldable pub start_b : (Activated → Talk) → Talk
-start_b next = rounds OneCardOnly most_rounds false next
+start_b next = rounds OneCardOnly ROUNDS false next
 
 abbrev pub say_message : Option Message → Talk → Talk
 say_message None next = next
@@ -76,27 +72,27 @@ selects k again (c ∷ cs) s =
     if is_9000 r then activates k (after_verdict again (selects k again cs)) (given_to c r) s else selects k again cs s)
 
 -- Start C, from SELECT PPSE on.
-abbrev pub start_c : {S : Type 0} → KernelSteps S → (again : S → Talk) → List Ready → S → Talk
+abbrev pub start_c : {S : Type 0} → KernelSteps S → (again : S → Talk) → List PreparedOne → S → Talk
 start_c k again ones s =
     Command (select ppse_name) (λ r.
     Say (Candidates (length (candidates ones (directory r)))) (selects k again (candidates ones (directory r)) s))
 
 -- The card that was found, and what it is presented for.
-abbrev pub presented : {S : Type 0} → KernelSteps S → (again : S → Talk) → List Ready → S → Activated → Talk
+abbrev pub presented : {S : Type 0} → KernelSteps S → (again : S → Talk) → List PreparedOne → S → Activated → Talk
 presented k again ones s card = Say (Card card.kind card.id) (start_c k again ones s)
 
 -- The Start Bs, with at most n restarts.
-abbrev pub starts : {S : Type 0} → KernelSteps S → List Ready → ℕ → S → Talk
+abbrev pub starts : {S : Type 0} → KernelSteps S → List PreparedOne → ℕ → S → Talk
 starts k ones zero s = start_b (presented k (λ _. Over Finished) ones s)
 starts k ones (suc n) s = start_b (presented k (starts k ones n) ones s)
 
 -- Each Combination of Pre-Processing, numbered from n.
-abbrev pub say_ready : ℕ → List Ready → Talk → Talk
+abbrev pub say_ready : ℕ → List PreparedOne → Talk → Talk
 say_ready n [] next = next
 say_ready n (one ∷ ones) next = Say (Pre n one) (say_ready (n + 1) ones next)
 
 -- The transaction, from Pre-Processing's list on.
-abbrev pub transaction : {S : Type 0} → KernelSteps S → (txn_type amount : ℕ) → List Ready → S → Talk
+abbrev pub transaction : {S : Type 0} → KernelSteps S → (txn_type amount : ℕ) → List PreparedOne → S → Talk
 transaction k txn_type amount ones s =
     Say (Start txn_type amount) (say_ready 1 ones
     (if any_allowed ones then Say (Notice PresentCard) (starts k ones (k.restarts s) s)

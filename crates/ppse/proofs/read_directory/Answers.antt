@@ -1,9 +1,7 @@
 use Rattle.std.proofs.Common.{ℕ, length, sym, ap, ◌∙◌, arith}
-use Rattle.std.specs.List.{count_by}
 use Rattle.ep_base.specs.Objects.Arena.{Object, Contents, live_bytes, value_in}
 use Rattle.ep_base.specs.Objects.Reading.{forest_of}
-use Rattle.ep_base.specs.Objects.Directory.{entries_of, is_named, held_from}
-use Rattle.ppse.proofs.Costs.{named_within}
+use Rattle.ep_base.specs.Objects.Directory.{entries_of, held_from}
 use Rattle.ppse.proofs.Spare.{load_entries, kept_entries}
 use Rattle.ppse.proofs.Groups.{held}
 use Rattle.ppse.proofs.read_directory.Goals as goal
@@ -14,11 +12,6 @@ returns-clause-held c =
     let base = held 1 es c.args.arena.now.contents (λ g t le. ap (value_in g t) c.requires.empty) in
     ap (λ (n : ℕ). held_from 1 n c.put_entries.new.arena.objects) c.put_entries.ensures.count
     ∙ ap (λ (k : Contents). held_from 1 (length es) k.objects) c.put_entries.ensures.contents ∙ base ∙ sym c.in-Some.ensures.entries
-
-pub returns-clause-named : goal.returns-clause-named
-returns-clause-named c =
-    let es = entries_of (forest_of c.in-Some.objects.now) in
-    omega (arith, named_within es, c.put_entries.ensures.cost, ap (count_by is_named) c.in-Some.ensures.entries)
 
 pub returns-clause-room : goal.returns-clause-room
 returns-clause-room c =

@@ -1,4 +1,4 @@
-use Rattle.std.proofs.Common.{◌≡◌, ◌<◌, ◌≤◌, sym, ◌∙◌, ap, Some, arith}
+use Rattle.std.proofs.Common.{sym, ◌∙◌, arith}
 use Rattle.ep_rules.specs.EntryPoint.Configuration.{count_of}
 use Rattle.acquirer_config.proofs.Crowds.{crowd_all, crowd_here, crowd_next, crowd_none}
 use Rattle.acquirer_config.proofs.config.crowd.Goals as goal

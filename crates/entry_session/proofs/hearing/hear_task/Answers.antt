@@ -1,4 +1,4 @@
-use Rattle.std.proofs.Common.{◌≡◌, ℕ, List, ◌++◌, Option, Some, None, sym, subst, ◌∙◌}
+use Rattle.std.proofs.Common.{◌≡◌, ℕ, ◌++◌, Some, None, sym, subst}
 use Rattle.ep_claim.specs.Lanes.Standing.{after_hearing, events_of}
 use Rattle.poll_activate.specs.Meaning.{ends_of}
 use Rattle.rf_frame.specs.Meaning.{heard_of}

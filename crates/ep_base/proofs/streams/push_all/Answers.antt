@@ -1,6 +1,5 @@
-use Rattle.std.proofs.Common.{◌≡◌, ◌≤◌, ◌+◌, length, take, drop, arith, length-drop, subst, ◌∙◌, ap}
+use Rattle.std.proofs.Common.{◌+◌, length, drop, arith, length-drop, ◌∙◌, ap}
 use Rattle.std.proofs.lemmas.List.{drop-drop}
-use Rattle.std.specs.Io.KnownBytes.{Appends}
 use Rattle.ep_base.proofs.Known.{appends_parts}
 use Rattle.ep_base.proofs.streams.push_all.Goals as goal
 

@@ -1,9 +1,8 @@
-use Rattle.std.proofs.Common.{◌≡◌, ◌≤◌, ◌∙◌, List, All, length, map, ap, subst, sym, option_map, Some, None, Ok}
+use Rattle.std.proofs.Common.{◌≤◌, ◌∙◌, List, All, length, map, ap, subst, sym, option_map, Some, None, Ok}
 use Rattle.ep_rules.specs.EntryPoint.Kernel.{Scripted}
 use Rattle.ep_claim.specs.Lanes.ReplayRun.{Replaying}
 use Rattle.ep_lanes.specs.Lanes.{Held}
-use Rattle.lane_replay.specs.Ends.{Ended}
-use Rattle.scenario.specs.Scene.{Work, Scene}
+use Rattle.scenario.specs.Scenario.{Work, Scenario}
 use Rattle.trace_io.specs.Meaning.{traced_of}
 use Rattle.ep_program.specs.Replay.{trace_lines, Plays}
 use Rattle.ep_program.specs.declared.status.Status.TheVariants.{Done, WriteFault, Mismatch}
@@ -14,7 +13,7 @@ use Rattle.ep_program.proofs.replay.play.Goals as goal
 pub works_of-requires : goal.works_of-requires
 works_of-requires g c =
     all_map (λ lane. lane.items) (λ (lane : List Work). length lane ≤ 64) c.scenario.inside.lanes.items
-    (subst (λ (s : Scene). All (λ lane. length lane ≤ 64) s.lanes) (sym c.scenario.view_is) c.requires.ready.short)
+    (subst (λ (s : Scenario). All (λ lane. length lane ≤ 64) s.lanes) (sym c.scenario.view_is) c.requires.ready.short)
 
 pub replay_lanes-requires-clause-works : goal.replay_lanes-requires-clause-works
 replay_lanes-requires-clause-works g c =
@@ -22,7 +21,7 @@ replay_lanes-requires-clause-works g c =
 
 pub returns-in-Ok-replay_lanes-clause-plays : goal.returns-in-Ok-replay_lanes-clause-plays
 returns-in-Ok-replay_lanes-clause-plays g c =
-    subst (λ (s : Scene). Plays s (g.K.Sink.written c.args.output.now) (g.K.Sink.written c.replay_lanes.new.output) Done) c.scenario.view_is (
+    subst (λ (s : Scenario). Plays s (g.K.Sink.written c.args.output.now) (g.K.Sink.written c.replay_lanes.new.output) Done) c.scenario.view_is (
       map traced_of c.in-Some.lines.items,
       ap (λ t. trace_lines (option_map (λ v. map traced_of v.items) t)) c.in-Some.is,
       writes_replay _ (map traced_of c.in-Some.lines.items) _ _ _ _ _
@@ -34,7 +33,7 @@ returns-in-Ok-replay_lanes-clause-plays g c =
 
 pub returns-in-Err-Mismatch-clause-plays : goal.returns-in-Err-Mismatch-clause-plays
 returns-in-Err-Mismatch-clause-plays g c =
-    subst (λ (s : Scene). Plays s (g.K.Sink.written c.args.output.now) (g.K.Sink.written c.replay_lanes.new.output) (Mismatch c.in-Err-Mismatch.mismatch))
+    subst (λ (s : Scenario). Plays s (g.K.Sink.written c.args.output.now) (g.K.Sink.written c.replay_lanes.new.output) (Mismatch c.in-Err-Mismatch.mismatch))
     c.scenario.view_is (
       map traced_of c.in-Some.lines.items,
       ap (λ t. trace_lines (option_map (λ v. map traced_of v.items) t)) c.in-Some.is,
@@ -47,7 +46,7 @@ returns-in-Err-Mismatch-clause-plays g c =
 
 pub returns-clause-plays : goal.returns-clause-plays
 returns-clause-plays g c =
-    subst (λ (s : Scene). Plays s (g.K.Sink.written c.args.output.now) (g.K.Sink.written c.replay_lanes.new.output) WriteFault) c.scenario.view_is (
+    subst (λ (s : Scenario). Plays s (g.K.Sink.written c.args.output.now) (g.K.Sink.written c.replay_lanes.new.output) WriteFault) c.scenario.view_is (
       map traced_of c.in-Some.lines.items,
       ap (λ t. trace_lines (option_map (λ v. map traced_of v.items) t)) c.in-Some.is,
       writes_replay_part _ (map traced_of c.in-Some.lines.items) _ _ _ _ _

@@ -1,4 +1,4 @@
-use Rattle.rf_field.specs.Meaning.{passages}
+use Rattle.rf_field.specs.Meaning.{exchange_fates}
 use Rattle.ep_base.specs.Air.Fates.{AreFates}
 use Rattle.doc_table.specs.Section.{place}
 use Rattle.fate_table.specs.Fates.{fates_at}
@@ -19,4 +19,4 @@ pub returns-clause-bursts : goal.returns-clause-bursts
 returns-clause-bursts c =
     let given = rw c.new.ensures.items at c.defaulted.ensures in
     let read = fates_given (λ v. v.items) (place c.args.section.now) c.defaulted.result given in
-    if_given (λ v. passages v.items) AreFates c.defaulted.result (fates_at (place c.args.section.now)) read (accepted_fates (place c.args.section.now))
+    if_given (λ v. exchange_fates v.items) AreFates c.defaulted.result (fates_at (place c.args.section.now)) read (accepted_fates (place c.args.section.now))

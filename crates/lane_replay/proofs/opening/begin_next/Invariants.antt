@@ -3,7 +3,7 @@ use Rattle.std.specs.Prelude.{Option, is_some}
 use Rattle.std.specs.Io.KnownBytes.{Appends}
 use Rattle.ep_base.specs.Streams.Io.{AppendsPrefix}
 use Rattle.ep_lanes.specs.Lanes.{count_of, has_open, is_live, lane_of}
-use Rattle.lane_report.specs.Shows.{held_of}
+use Rattle.ep_lanes.specs.Scripted.{held_of}
 use Rattle.lane_replay.proofs.Beginning.{here}
 use Rattle.lane_replay.proofs.opening.begin_next.Given as goal
 

@@ -1,7 +1,7 @@
 use Rattle.std.proofs.Common.{arith, ◌≡◌, ◌∙◌, sym, subst, Bool, true, false, None}
 use Rattle.ep_lanes.specs.Lanes.{next_lane}
 use Rattle.trace_io.specs.Replays.{replaying_of}
-use Rattle.lane_report.specs.Shows.{held_of}
+use Rattle.ep_lanes.specs.Scripted.{held_of}
 use Rattle.lane_replay.specs.Shows.{ReplayState}
 use Rattle.lane_replay.specs.Turned.{TurnTaken}
 use Rattle.lane_replay.proofs.Making.{none_made, last_made, one_made, one_cut, cut_here}

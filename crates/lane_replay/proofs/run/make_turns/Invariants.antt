@@ -1,7 +1,7 @@
 use Rattle.std.proofs.Common.{◌≡◌, ◌≤◌, List, ℕ, Option}
 use Rattle.std.specs.Prelude.{is_some}
 use Rattle.trace_io.specs.Replays.{replaying_of}
-use Rattle.lane_report.specs.Shows.{held_of}
+use Rattle.ep_lanes.specs.Scripted.{held_of}
 use Rattle.lane_replay.specs.Made.{TurnsCut, TurnsMade}
 use Rattle.lane_replay.specs.Shows.{Fits, ReplayState}
 use Rattle.lane_replay.specs.Turned.{lines_left}

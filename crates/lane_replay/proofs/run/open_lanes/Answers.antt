@@ -1,8 +1,8 @@
 use Rattle.std.proofs.Common.{rules, arith, ◌<◌, ◌≤◌, ◌∙◌, length, refl, ap, is_some}
 use Rattle.trace_io.specs.Replays.{replaying_of}
-use Rattle.lane_report.specs.Shows.{held_of}
-use Rattle.lane_report.proofs.Appending.{whole_next, part_next, part_front}
-use Rattle.lane_report.proofs.Texts.{whole_nothing, written_with}
+use Rattle.ep_lanes.specs.Scripted.{held_of}
+use Rattle.lane_jobs.proofs.Appending.{whole_next, part_next, part_front}
+use Rattle.lane_jobs.proofs.Texts.{whole_nothing, written_with}
 use Rattle.lane_replay.proofs.Opened.{opening_first, next_new, next_text, opening_next, text_none, all_fit, all_shown}
 use Rattle.lane_replay.proofs.run.open_lanes.Goals as goal
 

@@ -1,6 +1,6 @@
 use Rattle.std.proofs.Common.{◌∙◌, sym, ap, refl, true, false, Some}
 use Rattle.trace_io.specs.Replays.{replaying_of}
-use Rattle.lane_report.specs.Shows.{held_of}
+use Rattle.ep_lanes.specs.Scripted.{held_of}
 use Rattle.lane_replay.proofs.Finishing.{ends_well, replay_whole, replay_part, replay_unopened}
 use Rattle.lane_replay.proofs.run.replay_lanes.Goals as goal
 

@@ -1,6 +1,6 @@
 use Rattle.ep_lanes.specs.Lanes.{lane_of}
-use Rattle.lane_report.specs.Shows.{held_of}
-use Rattle.lane_report.proofs.Closing.{on_err_weaker}
+use Rattle.ep_lanes.specs.Scripted.{held_of}
+use Rattle.lane_jobs.proofs.Results.{on_err_weaker}
 use Rattle.lane_replay.proofs.Going.{ended_part}
 use Rattle.lane_replay.proofs.turning.go_on.Goals as goal
 

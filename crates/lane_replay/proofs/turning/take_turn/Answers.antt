@@ -1,10 +1,10 @@
 use Rattle.std.proofs.Common.{arith, ◌-◌, ◌∙◌, refl, slice_index_or, slice_set}
 use Rattle.std.proofs.lemmas.Result.{IfOk-weaker}
 use Rattle.trace_io.specs.Replays.{replaying_of}
-use Rattle.lane_report.specs.Shows.{held_of}
-use Rattle.lane_report.proofs.Closing.{on_err_weaker}
-use Rattle.lane_report.proofs.Places.{found, changed, others}
-use Rattle.lane_report.proofs.Steps.{next_live}
+use Rattle.ep_lanes.specs.Scripted.{held_of}
+use Rattle.lane_jobs.proofs.Results.{on_err_weaker}
+use Rattle.lane_jobs.proofs.Places.{found, changed, others}
+use Rattle.ep_lanes.proofs.Ordering.{next_live}
 use Rattle.lane_replay.proofs.Turns.{next_there, turn_taken, turn_cut}
 use Rattle.lane_replay.proofs.turning.take_turn.Goals as goal
 

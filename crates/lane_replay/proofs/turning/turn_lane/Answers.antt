@@ -1,7 +1,7 @@
 use Rattle.ep_lanes.specs.Lanes.{lane_of}
 use Rattle.session_phases.specs.Told.{told_by}
 use Rattle.trace_io.specs.Replays.{replaying_of}
-use Rattle.lane_report.specs.Shows.{held_of}
+use Rattle.ep_lanes.specs.Scripted.{held_of}
 use Rattle.lane_replay.proofs.Hearing.{is_after, turn_heard, turn_part}
 use Rattle.lane_replay.proofs.turning.turn_lane.Goals as goal
 

@@ -1,8 +1,8 @@
 use Rattle.std.proofs.Common.{arith, ◌∙◌, sym, subst, Bool, false}
 use Rattle.ep_lanes.specs.Lanes.{lane_of}
 use Rattle.lane_report.specs.Begun.{BegunLane}
-use Rattle.lane_report.specs.Shows.{held_of}
-use Rattle.lane_report.proofs.Appending.{whole_next, part_next, part_front}
+use Rattle.ep_lanes.specs.Scripted.{held_of}
+use Rattle.lane_jobs.proofs.Appending.{whole_next, part_next, part_front}
 use Rattle.lane_report.proofs.Beginning.{text_split, text_passed, going_after}
 use Rattle.lane_report.proofs.opening.begin_next.Goals as goal
 

@@ -1,4 +1,4 @@
-use Rattle.lane_report.proofs.Appending.{whole_next, part_next, part_front}
+use Rattle.lane_jobs.proofs.Appending.{whole_next, part_next, part_front}
 use Rattle.lane_report.proofs.Beginning.{first_text}
 use Rattle.lane_report.proofs.opening.begin_one.Goals as goal
 

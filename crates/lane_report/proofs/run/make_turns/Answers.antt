@@ -1,7 +1,7 @@
 use Rattle.std.proofs.Common.{arith, ◌≡◌, ◌<◌, ◌∙◌, sym, None}
 use Rattle.law_turns.specs.Growing.{most_exchanges}
 use Rattle.ep_lanes.specs.Lanes.{next_lane}
-use Rattle.lane_report.specs.Shows.{held_of}
+use Rattle.ep_lanes.specs.Scripted.{held_of}
 use Rattle.lane_report.proofs.Running.{most_number, one_taken, all_made, most_made, cut_after}
 use Rattle.lane_report.proofs.run.make_turns.Goals as goal
 

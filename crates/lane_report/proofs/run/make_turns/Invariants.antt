@@ -1,6 +1,7 @@
 use Rattle.std.proofs.Common.{◌≡◌, ◌≤◌, length}
 use Rattle.std.specs.Prelude.{is_some}
-use Rattle.lane_report.specs.Shows.{Fits, held_of}
+use Rattle.lane_report.specs.Shows.{Fits}
+use Rattle.ep_lanes.specs.Scripted.{held_of}
 use Rattle.lane_report.proofs.Running.{TurnsTaken}
 use Rattle.lane_report.proofs.run.make_turns.Given as goal
 

@@ -3,8 +3,8 @@ use Rattle.std.specs.Prelude.{is_some}
 use Rattle.std.specs.Io.KnownBytes.{Appends}
 use Rattle.ep_base.specs.Streams.Io.{AppendsPrefix}
 use Rattle.ep_claim.specs.Lanes.WholeRun.{opening_text}
-use Rattle.lane_report.specs.Shows.{held_of}
-use Rattle.lane_report.specs.Works.{all_jobs}
+use Rattle.ep_lanes.specs.Scripted.{held_of}
+use Rattle.lane_jobs.specs.Works.{all_jobs}
 use Rattle.lane_report.proofs.Opened.{Opening}
 use Rattle.lane_report.proofs.run.open_lanes.Given as goal
 

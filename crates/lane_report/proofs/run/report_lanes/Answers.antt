@@ -1,6 +1,6 @@
 use Rattle.std.proofs.Common.{Result, Ok, Err}
 use Rattle.std.specs.Prelude.{OnOk, OnErr}
-use Rattle.lane_report.specs.Shows.{held_of}
+use Rattle.ep_lanes.specs.Scripted.{held_of}
 use Rattle.lane_report.proofs.Reporting.{report_whole, report_part, report_unopened}
 use Rattle.lane_report.proofs.run.report_lanes.Goals as goal
 

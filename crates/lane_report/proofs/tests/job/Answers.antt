@@ -1,10 +1,11 @@
 use Rattle.std.proofs.Common.{arith, ◌≡◌, ◌≤◌, ◌∙◌, sym, ap, subst, [], length, All}
 use Rattle.std.specs.Prelude.{None}
 use Rattle.std.proofs.lemmas.List.Elements.{All-nil}
+use Rattle.ep_base.specs.declared.limits.TheConstants.{TYPE_COMBINATIONS}
 use Rattle.ep_rules.specs.EntryPoint.Configuration.{Config, AreCombinations, count_of}
 use Rattle.ep_rules.specs.EntryPoint.Kernel.{Script, Scripted}
 use Rattle.ep_rules.specs.EntryPoint.KernelCommands.{ScriptedSends}
-use Rattle.scenario.specs.Scene.{Work}
+use Rattle.scenario.specs.Scenario.{Work}
 use Rattle.lane_report.specs.Reports.{IsFew}
 use Rattle.lane_report.proofs.tests.job.Goals as goal
 
@@ -12,7 +13,7 @@ use Rattle.lane_report.proofs.tests.job.Goals as goal
 abbrev nothing : Scripted
 nothing = record { scripts = []; running = None }
 
-few_of : (settings : Config) (w : Work) → w.scripts ≡ nothing → count_of w.txn_type settings.list ≤ 16 → IsFew settings w
+few_of : (settings : Config) (w : Work) → w.scripts ≡ nothing → count_of w.txn_type settings.list ≤ TYPE_COMBINATIONS → IsFew settings w
 few_of settings w e few = record {
   sends = subst ScriptedSends (sym e) (tt, tt);
   rests = ap (λ (s : Scripted). s.running) e;

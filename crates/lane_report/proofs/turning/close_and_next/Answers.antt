@@ -1,7 +1,8 @@
 use Rattle.std.proofs.Common.{◌∙◌, ap}
 use Rattle.ep_base.specs.Cards.Field as plain
 use Rattle.rf_field.specs.Fields.{field_of}
-use Rattle.lane_report.proofs.Closing.{some_same, closed_whole, closed_part}
+use Rattle.lane_report.proofs.Closing.{closed_whole, closed_part}
+use Rattle.lane_jobs.proofs.Results.{some_same}
 use Rattle.lane_report.proofs.turning.close_and_next.Goals as goal
 
 pub returns-in-Ok-clause-ok : goal.returns-in-Ok-clause-ok

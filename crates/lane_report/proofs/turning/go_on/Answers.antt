@@ -1,6 +1,7 @@
 use Rattle.ep_lanes.specs.Lanes.{lane_of}
-use Rattle.lane_report.specs.Shows.{held_of}
-use Rattle.lane_report.proofs.Closing.{ended_part, on_err_weaker}
+use Rattle.ep_lanes.specs.Scripted.{held_of}
+use Rattle.lane_report.proofs.Closing.{ended_part}
+use Rattle.lane_jobs.proofs.Results.{on_err_weaker}
 use Rattle.lane_report.proofs.turning.go_on.Goals as goal
 
 pub returns-in-Ended-clause-err : goal.returns-in-Ended-clause-err

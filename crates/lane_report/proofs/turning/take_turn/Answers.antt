@@ -1,11 +1,12 @@
 use Rattle.std.proofs.Common.{arith, ◌-◌, ◌∙◌, refl, ap, is_some, slice_index_or, slice_set}
 use Rattle.std.proofs.lemmas.List.{length-set}
 use Rattle.std.proofs.lemmas.Result.{on_ok_weaker}
-use Rattle.lane_report.specs.Shows.{held_of}
-use Rattle.lane_report.specs.Works.{LaneWork}
-use Rattle.lane_report.proofs.Closing.{on_err_weaker}
-use Rattle.lane_report.proofs.Places.{found, changed, others}
-use Rattle.lane_report.proofs.Steps.{next_live, next_there, turn_taken, turn_cut, fits_after}
+use Rattle.ep_lanes.specs.Scripted.{held_of}
+use Rattle.lane_jobs.specs.Works.{LaneWork}
+use Rattle.lane_jobs.proofs.Results.{on_err_weaker}
+use Rattle.lane_jobs.proofs.Places.{found, changed, others}
+use Rattle.lane_report.proofs.Steps.{next_there, turn_taken, turn_cut, fits_after}
+use Rattle.ep_lanes.proofs.Ordering.{next_live}
 use Rattle.lane_report.proofs.turning.take_turn.Goals as goal
 
 pub overflow_sub-work : goal.overflow_sub-work

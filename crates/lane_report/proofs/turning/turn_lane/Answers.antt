@@ -1,8 +1,8 @@
 use Rattle.std.proofs.lemmas.Result.{on_ok_weaker}
 use Rattle.ep_lanes.specs.Lanes.{made_of}
 use Rattle.session_phases.specs.Told.{told_by}
-use Rattle.lane_report.specs.Shows.{held_of}
-use Rattle.lane_report.proofs.Closing.{on_err_weaker}
+use Rattle.ep_lanes.specs.Scripted.{held_of}
+use Rattle.lane_jobs.proofs.Results.{on_err_weaker}
 use Rattle.lane_report.proofs.Hearing.{is_after, turn_wrote, turn_part, turn_front}
 use Rattle.lane_report.proofs.turning.turn_lane.Goals as goal
 

@@ -1,4 +1,4 @@
-use Rattle.lane_report.proofs.Appending.{part_then}
+use Rattle.lane_jobs.proofs.Appending.{part_then}
 use Rattle.lane_report.proofs.writing.write_exchange.Goals as goal
 
 pub returns-in-Ok-clause-err : goal.returns-in-Ok-clause-err

@@ -1,5 +1,5 @@
 use Rattle.std.proofs.Common.{Some, None, Ok, Err, subst, ◌∙◌, arith}
-use Rattle.ep_base.specs.Air.Heard.{Ask as Asked}
+use Rattle.ep_base.specs.Air.Heard.{Ask as AskData}
 use Rattle.ep_base.specs.Link.ReaderEnd.{begin}
 use Rattle.rf_frame.specs.Meaning.{heard_of}
 use Rattle.block_reader.specs.declared.ends.Next.TheVariants.{Ask, Done, Failed}
@@ -30,7 +30,7 @@ loop-heard-preserved g c =
           let now : After M.steps set (begin set.frames.card c.args.command.now r) (M.state c.args.medium.now) (Ask c.in-Ask.next) (held c.heard.new.self) (M.state c.send.new.self) =
           heard M.steps set (begin set.frames.card c.args.command.now r) (M.state c.args.medium.now) c.loop-heard.ask (held c.loop-heard.end) (M.state c.loop-heard.medium) (heard_of c.in-Ok.heard)
           (Ask c.in-Ask.next) (held c.heard.new.self) (M.state c.send.new.self) (c.loop-heard.invariant.going r rests)
-          (subst (λ (a : Asked). M.steps.sends (M.state c.loop-heard.medium) a.wave a.bytes a.wait (Some (heard_of c.in-Ok.heard)) (M.state c.send.new.self)) c.ask.view_is c.in-Ok.ensures.step)
+          (subst (λ (a : AskData). M.steps.sends (M.state c.loop-heard.medium) a.wave a.bytes a.wait (Some (heard_of c.in-Ok.heard)) (M.state c.send.new.self)) c.ask.view_is c.in-Ok.ensures.step)
           (c.heard.ensures.setting ∙ c.loop-heard.invariant.setting) c.loop-heard.invariant.setting
           (λ q asking. c.in-Ask.ensures.by_rules q asking) in
           goes_on M.steps set (begin set.frames.card c.args.command.now r) (M.state c.args.medium.now) c.in-Ask.next (held c.heard.new.self) (M.state c.send.new.self) now;
@@ -46,7 +46,7 @@ returns-in-Done-clause-by_rules g c = λ r rests.
     let now : After M.steps set (begin set.frames.card c.args.command.now r) (M.state c.args.medium.now) (Done c.in-Done.response) (held c.heard.new.self) (M.state c.send.new.self) =
     heard M.steps set (begin set.frames.card c.args.command.now r) (M.state c.args.medium.now) c.loop-heard.ask (held c.loop-heard.end) (M.state c.loop-heard.medium) (heard_of c.in-Ok.heard)
     (Done c.in-Done.response) (held c.heard.new.self) (M.state c.send.new.self) (c.loop-heard.invariant.going r rests)
-    (subst (λ (a : Asked). M.steps.sends (M.state c.loop-heard.medium) a.wave a.bytes a.wait (Some (heard_of c.in-Ok.heard)) (M.state c.send.new.self)) c.ask.view_is c.in-Ok.ensures.step)
+    (subst (λ (a : AskData). M.steps.sends (M.state c.loop-heard.medium) a.wave a.bytes a.wait (Some (heard_of c.in-Ok.heard)) (M.state c.send.new.self)) c.ask.view_is c.in-Ok.ensures.step)
     (c.heard.ensures.setting ∙ c.loop-heard.invariant.setting) c.loop-heard.invariant.setting
     (λ q asking. c.in-Done.ensures.by_rules q asking) in
     done M.steps set (begin set.frames.card c.args.command.now r) (M.state c.args.medium.now) c.in-Done.response (held c.heard.new.self) (M.state c.send.new.self) now
@@ -58,7 +58,7 @@ returns-in-Done-clause-once g c = λ good shown r acts is of at_rest rests.
     let now : After M.steps set (begin set.frames.card c.args.command.now r) (M.state c.args.medium.now) (Done c.in-Done.response) (held c.heard.new.self) (M.state c.send.new.self) =
     heard M.steps set (begin set.frames.card c.args.command.now r) (M.state c.args.medium.now) c.loop-heard.ask (held c.loop-heard.end) (M.state c.loop-heard.medium) (heard_of c.in-Ok.heard)
     (Done c.in-Done.response) (held c.heard.new.self) (M.state c.send.new.self) (c.loop-heard.invariant.going r rests)
-    (subst (λ (a : Asked). M.steps.sends (M.state c.loop-heard.medium) a.wave a.bytes a.wait (Some (heard_of c.in-Ok.heard)) (M.state c.send.new.self)) c.ask.view_is c.in-Ok.ensures.step)
+    (subst (λ (a : AskData). M.steps.sends (M.state c.loop-heard.medium) a.wave a.bytes a.wait (Some (heard_of c.in-Ok.heard)) (M.state c.send.new.self)) c.ask.view_is c.in-Ok.ensures.step)
     (c.heard.ensures.setting ∙ c.loop-heard.invariant.setting) c.loop-heard.invariant.setting
     (λ q asking. c.in-Done.ensures.by_rules q asking) in
     once M.steps set good shown (M.state c.args.medium.now) r c.args.command.now acts is of at_rest c.begin-ask.ensures.legal (Ok c.in-Done.response) (held c.heard.new.self) (M.state c.send.new.self)
@@ -71,7 +71,7 @@ returns-in-Failed-clause-by_rules g c = λ r rests.
     let now : After M.steps set (begin set.frames.card c.args.command.now r) (M.state c.args.medium.now) (Failed c.in-Failed.failed) (held c.heard.new.self) (M.state c.send.new.self) =
     heard M.steps set (begin set.frames.card c.args.command.now r) (M.state c.args.medium.now) c.loop-heard.ask (held c.loop-heard.end) (M.state c.loop-heard.medium) (heard_of c.in-Ok.heard)
     (Failed c.in-Failed.failed) (held c.heard.new.self) (M.state c.send.new.self) (c.loop-heard.invariant.going r rests)
-    (subst (λ (a : Asked). M.steps.sends (M.state c.loop-heard.medium) a.wave a.bytes a.wait (Some (heard_of c.in-Ok.heard)) (M.state c.send.new.self)) c.ask.view_is c.in-Ok.ensures.step)
+    (subst (λ (a : AskData). M.steps.sends (M.state c.loop-heard.medium) a.wave a.bytes a.wait (Some (heard_of c.in-Ok.heard)) (M.state c.send.new.self)) c.ask.view_is c.in-Ok.ensures.step)
     (c.heard.ensures.setting ∙ c.loop-heard.invariant.setting) c.loop-heard.invariant.setting
     (λ q asking. c.in-Failed.ensures.by_rules q asking) in
     failed M.steps set (begin set.frames.card c.args.command.now r) (M.state c.args.medium.now) c.in-Failed.failed (held c.heard.new.self) (M.state c.send.new.self) now
@@ -83,7 +83,7 @@ returns-in-Failed-clause-once g c = λ good shown r acts is of at_rest rests.
     let now : After M.steps set (begin set.frames.card c.args.command.now r) (M.state c.args.medium.now) (Failed c.in-Failed.failed) (held c.heard.new.self) (M.state c.send.new.self) =
     heard M.steps set (begin set.frames.card c.args.command.now r) (M.state c.args.medium.now) c.loop-heard.ask (held c.loop-heard.end) (M.state c.loop-heard.medium) (heard_of c.in-Ok.heard)
     (Failed c.in-Failed.failed) (held c.heard.new.self) (M.state c.send.new.self) (c.loop-heard.invariant.going r rests)
-    (subst (λ (a : Asked). M.steps.sends (M.state c.loop-heard.medium) a.wave a.bytes a.wait (Some (heard_of c.in-Ok.heard)) (M.state c.send.new.self)) c.ask.view_is c.in-Ok.ensures.step)
+    (subst (λ (a : AskData). M.steps.sends (M.state c.loop-heard.medium) a.wave a.bytes a.wait (Some (heard_of c.in-Ok.heard)) (M.state c.send.new.self)) c.ask.view_is c.in-Ok.ensures.step)
     (c.heard.ensures.setting ∙ c.loop-heard.invariant.setting) c.loop-heard.invariant.setting
     (λ q asking. c.in-Failed.ensures.by_rules q asking) in
     once M.steps set good shown (M.state c.args.medium.now) r c.args.command.now acts is of at_rest c.begin-ask.ensures.legal (Err c.in-Failed.failed) (held c.heard.new.self) (M.state c.send.new.self)
@@ -95,4 +95,4 @@ returns-in_default-clause-once g c = λ good shown r acts is of at_rest rests.
     let set = (held c.args.end.now).set in
     once M.steps set good shown (M.state c.args.medium.now) r c.args.command.now acts is of at_rest c.begin-ask.ensures.legal (Err Device) (held c.loop-heard.end) (M.state c.send.new.self)
     (lost M.steps set (begin set.frames.card c.args.command.now r) (M.state c.args.medium.now) c.loop-heard.ask (held c.loop-heard.end) (M.state c.loop-heard.medium) (M.state c.send.new.self) (c.loop-heard.invariant.going r rests)
-    (subst (λ (a : Asked). M.steps.sends (M.state c.loop-heard.medium) a.wave a.bytes a.wait None (M.state c.send.new.self)) c.ask.view_is c.in_default.ensures.step))
+    (subst (λ (a : AskData). M.steps.sends (M.state c.loop-heard.medium) a.wave a.bytes a.wait None (M.state c.send.new.self)) c.ask.view_is c.in_default.ensures.step))

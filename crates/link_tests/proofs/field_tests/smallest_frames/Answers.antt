@@ -4,14 +4,14 @@ use Rattle.ep_base.specs.Cards.TypeB.{BPlan}
 use Rattle.law_round.proofs.Lawfulness.{begins_lawful_law}
 use Rattle.ep_base.specs.Cards.Lawful.{Bytes, Lawful}
 use Rattle.rf_field.specs.Fields.{field_of}
-use Rattle.rf_field.specs.Meaning.{passages}
+use Rattle.rf_field.specs.Meaning.{exchange_fates}
 use Rattle.link_tests.proofs.Ready.{all_fates}
 use Rattle.link_tests.proofs.field_tests.smallest_frames.Goals as goal
 
 pub returns : goal.returns
 returns c =
     let image = c.in_ok-image.image in
-    let fates = passages c.args.fates.items in
+    let fates = exchange_fates c.args.fates.items in
     let plan : BPlan = record { pupi = 17 ∷ 34 ∷ 51 ∷ 68 ∷ []; app_data = 0 ∷ 0 ∷ 0 ∷ 0 ∷ []; fsci = 0; fwi = 4; iso4 = true } in
     let card : Placed = placed_b plan image in
     let all = new_field (card ∷ []) [] fates 4 in

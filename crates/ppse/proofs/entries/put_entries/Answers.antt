@@ -2,6 +2,7 @@ use Rattle.std.proofs.Common.{◌≡◌, ◌+◌, ◌≤◌, true, List, ◌∷�
 use Rattle.ep_base.specs.declared.objects.Node.{Node}
 use Rattle.ep_base.specs.Objects.Reading.{forest_of}
 use Rattle.ep_base.specs.Objects.Directory.{Entry, entries_of, with_entries}
+use Rattle.ep_base.specs.declared.limits.TheConstants.{DATA}
 use Rattle.tlv_core.specs.Nodes.{AllWithin}
 use Rattle.ppse.specs.Listing.{is_top, value_at, entry_in, entries_at}
 use Rattle.ppse.specs.Room.{HasSpare, entry_cost, entries_cost}
@@ -15,13 +16,13 @@ pub loop-node-init : goal.loop-node-init
 loop-node-init c =
     let bytes = c.args.objects.now in
     let same = entries_read_so c.one_reading.ensures.all bytes c.in-Ok.walk (forest_of bytes) c.in-Ok.ensures.some in
-    let all : entries_cost (entries_of (forest_of bytes)) ≤ 256 = cost_so 256 (forest_of bytes) (data_fit c.one_reading.ensures.only bytes 256 c.requires.length) in
-    let cost : entries_cost (entries_at bytes c.in-Ok.walk) ≤ 256 = omega (arith, all, ap entries_cost same) in
+    let all : entries_cost (entries_of (forest_of bytes)) ≤ DATA = cost_so DATA (forest_of bytes) (data_fit c.one_reading.ensures.only bytes DATA c.requires.length) in
+    let cost : entries_cost (entries_at bytes c.in-Ok.walk) ≤ DATA = omega (arith, all, ap entries_cost same) in
     record {
       contents = refl;
       count = omega arith;
       few = omega (arith, cost, count_within (entries_at bytes c.in-Ok.walk));
-      spare = spare_less 256 (entries_cost (entries_at bytes c.in-Ok.walk)) c.args.arena.now.contents cost c.requires.spare;
+      spare = spare_less DATA (entries_cost (entries_at bytes c.in-Ok.walk)) c.args.arena.now.contents cost c.requires.spare;
       within = c.in-Ok.ensures.within;
     }
 
@@ -83,4 +84,4 @@ returns-clause-contents c =
 pub returns-clause-cost : goal.returns-clause-cost
 returns-clause-cost c =
     let bytes = c.args.objects.now in
-    cost_so 256 (forest_of bytes) (data_fit c.one_reading.ensures.only bytes 256 c.requires.length)
+    cost_so DATA (forest_of bytes) (data_fit c.one_reading.ensures.only bytes DATA c.requires.length)

@@ -1,4 +1,4 @@
-use Rattle.std.proofs.Common.{◌≡◌, ◌++◌, length, drop}
+use Rattle.std.proofs.Common.{◌≡◌, ◌++◌, drop}
 use Rattle.pre_processing.proofs.prepared.copy_list.Given as goal
 
 -- What is copied, and the rest, are the whole

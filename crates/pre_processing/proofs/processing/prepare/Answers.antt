@@ -1,5 +1,6 @@
 use Rattle.std.proofs.Common.{◌≡◌, ◌==◌, true, arith, subst}
 use Rattle.std.proofs.lemmas.Bool.Decides.{nat_tests}
+use Rattle.ep_base.specs.declared.limits.TheConstants.{TYPE_COMBINATIONS}
 use Rattle.ep_rules.specs.EntryPoint.Configuration.{Combination}
 use Rattle.ep_rules.specs.EntryPoint.PreProcessing.{prepared_one}
 use Rattle.pre_processing.proofs.Room.{room_left}
@@ -12,6 +13,6 @@ push-requires c =
     let P : Combination → Type 0 = λ x. (x.txn_type == c.args.txn_type) ≡ true in (
       omega arith,
       room_left (prepared_one c.exponent-exponent.result c.args.amount) (λ (x : Combination). x.txn_type == c.args.txn_type) c.loop-combination.list.items
-          c.list-combinations.result.now c.loop-combination.combination-index 16 c.combination-item.result
+          c.list-combinations.result.now c.loop-combination.combination-index TYPE_COMBINATIONS c.combination-item.result
           c.loop-combination.invariant c.loop-combination-test.true (subst P c.combination-item.is test) (c.list-combinations.ensures.limits.of_a_type c.args.txn_type),
     )

@@ -1,7 +1,7 @@
 use Rattle.std.proofs.Common.{◌≡◌, drop}
-use Rattle.ep_base.specs.Cards.Field.{names}
+use Rattle.ep_base.specs.Cards.Field.{has_number}
 use Rattle.rf_field.proofs.presence.is_listed.Given as goal
 
 -- the number is in the list just where it is in what is left of it
 abbrev pub invariant-loop-listed : goal.invariant-loop-listed
-invariant-loop-listed l = names l.number (drop l.listed-index l.list) ≡ names l.number l.initial.list
+invariant-loop-listed l = has_number l.number (drop l.listed-index l.list) ≡ has_number l.number l.initial.list

@@ -1,5 +1,5 @@
 use Rattle.std.proofs.Common.{◌≡◌, map}
-use Rattle.scenario.specs.Scene.{work_of}
+use Rattle.scenario.specs.Scenario.{work_of}
 use Rattle.scenario.proofs.job.open_lane.Given as goal
 
 abbrev pub invariant-loop-transaction : goal.invariant-loop-transaction

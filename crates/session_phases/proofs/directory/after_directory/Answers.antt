@@ -14,11 +14,11 @@ returns-clause-wishes g c = λ talk results before h.
     let es = entries_held n c.read_directory-directory.new.arena.objects in
     c.select_left.ensures.wishes talk results before
     (listed g.K.Kernels.steps c.args.prepared.now.list c.read_directory-directory.new.arena.objects talk results before (told_by c.args.events.now.items) (g.K.Kernels.state c.args.kernels.now)
-    c.build-selection.result c.args.response.now n c.count_of.result es (told_by c.note.new.events.items)
+    c.build-selection.result c.args.selection.now.response n c.count_of.result es (told_by c.note.new.events.items)
     refl c.read_directory-directory.ensures.held c.build-selection.ensures.stands
     (c.count_of.ensures c.args.prepared.now.list es (candidates c.args.prepared.now.list es) c.build-selection.ensures.stands) c.note.ensures.told h)
 
 pub returns-clause-room : goal.returns-clause-room
 returns-clause-room g c =
     subst (λ (a : Contents). HasRoom a) (sym c.read_directory-directory.ensures.contents)
-    (entries_room 1 (directory c.args.response.now) c.clear.new.self.contents (subst (λ (a : Contents). HasRoom a) (sym c.clear.ensures) c.requires.room))
+    (entries_room 1 (directory c.args.selection.now.response) c.clear.new.self.contents (subst (λ (a : Contents). HasRoom a) (sym c.clear.ensures) c.requires.room))

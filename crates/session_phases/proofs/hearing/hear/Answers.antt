@@ -1,6 +1,6 @@
 use Rattle.std.proofs.Common.{◌≡◌, List, ◌++◌, sym, ap, ◌∙◌, append-nil, subst}
 use Rattle.std.proofs.lemmas.List.{length-map}
-use Rattle.ep_rules.specs.EntryPoint.Event.{Said}
+use Rattle.ep_rules.specs.EntryPoint.Event.{Event as EventData}
 use Rattle.rf_frame.specs.Meaning.{heard_of}
 use Rattle.session_phases.specs.Plain.{onward_of, wish_of}
 use Rattle.session_phases.specs.Rounds.{polls, presents}
@@ -21,7 +21,7 @@ pub returns-in-Polling-clause-turned : goal.returns-in-Polling-clause-turned
 returns-in-Polling-clause-turned g c = λ talk st said h.
     let K = g.K.Kernels in
     let at = rw c.in-Polling.is at h in
-    let all : said ≡ said ++ told_by c.args.events.now.items = sym (ap (λ (es : List Said). said ++ es) (none_told c.args.events.now.items c.requires.empty) ∙ append-nil said) in
+    let all : said ≡ said ++ told_by c.args.events.now.items = sym (ap (λ (es : List EventData). said ++ es) (none_told c.args.events.now.items c.requires.empty) ∙ append-nil said) in
     rounds_on K.steps c.args.prepared.now.list (K.state c.args.kernels.now) c.args.presentation.now.arena.objects c.hear_round.new.presentation.arena.objects c.args.fsdi (link_held c.args.presentation.now.link) (link_held c.hear_round.new.presentation.link)
     (onward_of c.hear_round.result c.hear_round.new.ask c.hear_round.new.presentation.round c.hear_round.new.presentation.selection) talk st (heard_of c.args.heard.now) said (said ++ told_by c.hear_round.new.events.items) c.args.presentation.now.round.poll c.args.presentation.now.round.left c.args.presentation.now.round.collided at
     (λ next stage is code comes. c.hear_round.ensures.turned talk st.results said next stage is code
@@ -43,17 +43,17 @@ pub returns-in-Waiting-clause-rounds : goal.returns-in-Waiting-clause-rounds
 returns-in-Waiting-clause-rounds g c = λ talk st said h fits same.
     let K = g.K.Kernels in
     let at = rw c.in-Waiting.is at h in
-    let all : said ≡ said ++ told_by c.args.events.now.items = sym (ap (λ (es : List Said). said ++ es) (none_told c.args.events.now.items c.requires.empty) ∙ append-nil said) in
+    let all : said ≡ said ++ told_by c.args.events.now.items = sym (ap (λ (es : List EventData). said ++ es) (none_told c.args.events.now.items c.requires.empty) ∙ append-nil said) in
     c.hear_wish.ensures.rounds talk st said
-    (subst (λ (said : List Said). WishStands K.steps c.args.prepared.now.list (K.state c.args.kernels.now) c.args.presentation.now.arena.objects (link_held c.args.presentation.now.link) (wish_of c.in-Waiting.wish c.args.presentation.now.selection) talk st said) all at) same
+    (subst (λ (said : List EventData). WishStands K.steps c.args.prepared.now.list (K.state c.args.kernels.now) c.args.presentation.now.arena.objects (link_held c.args.presentation.now.link) (wish_of c.in-Waiting.wish c.args.presentation.now.selection) talk st said) all at) same
 
 pub returns-in-Waiting-clause-kept : goal.returns-in-Waiting-clause-kept
 returns-in-Waiting-clause-kept g c = λ talk st said h.
     let K = g.K.Kernels in
     let at = rw c.in-Waiting.is at h in
-    let all : said ≡ said ++ told_by c.args.events.now.items = sym (ap (λ (es : List Said). said ++ es) (none_told c.args.events.now.items c.requires.empty) ∙ append-nil said) in
+    let all : said ≡ said ++ told_by c.args.events.now.items = sym (ap (λ (es : List EventData). said ++ es) (none_told c.args.events.now.items c.requires.empty) ∙ append-nil said) in
     c.hear_wish.ensures.kept talk st said
-    (subst (λ (said : List Said). WishStands K.steps c.args.prepared.now.list (K.state c.args.kernels.now) c.args.presentation.now.arena.objects (link_held c.args.presentation.now.link) (wish_of c.in-Waiting.wish c.args.presentation.now.selection) talk st said) all at)
+    (subst (λ (said : List EventData). WishStands K.steps c.args.prepared.now.list (K.state c.args.kernels.now) c.args.presentation.now.arena.objects (link_held c.args.presentation.now.link) (wish_of c.in-Waiting.wish c.args.presentation.now.selection) talk st said) all at)
 
 pub returns-in-Polling-clause-fits : goal.returns-in-Polling-clause-fits
 returns-in-Polling-clause-fits g c = λ fits.
@@ -69,6 +69,6 @@ pub returns-in-Waiting-clause-failed : goal.returns-in-Waiting-clause-failed
 returns-in-Waiting-clause-failed g c = λ talk st said h.
     let K = g.K.Kernels in
     let at = rw c.in-Waiting.is at h in
-    let all : said ≡ said ++ told_by c.args.events.now.items = sym (ap (λ (es : List Said). said ++ es) (none_told c.args.events.now.items c.requires.empty) ∙ append-nil said) in
+    let all : said ≡ said ++ told_by c.args.events.now.items = sym (ap (λ (es : List EventData). said ++ es) (none_told c.args.events.now.items c.requires.empty) ∙ append-nil said) in
     c.hear_wish.ensures.failed talk st said
-    (subst (λ (said : List Said). WishStands K.steps c.args.prepared.now.list (K.state c.args.kernels.now) c.args.presentation.now.arena.objects (link_held c.args.presentation.now.link) (wish_of c.in-Waiting.wish c.args.presentation.now.selection) talk st said) all at)
+    (subst (λ (said : List EventData). WishStands K.steps c.args.prepared.now.list (K.state c.args.kernels.now) c.args.presentation.now.arena.objects (link_held c.args.presentation.now.link) (wish_of c.in-Waiting.wish c.args.presentation.now.selection) talk st said) all at)

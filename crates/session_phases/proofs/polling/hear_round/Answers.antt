@@ -1,6 +1,6 @@
 use Rattle.std.proofs.Common.{◌≡◌, ℕ, ◌+◌, List, [], ◌∷◌, ◌++◌, Option, Some, None, ap, sym, subst, ◌∙◌, arith}
 use Rattle.ep_base.specs.declared.outcome.Message.TheVariants.{OneCardOnly}
-use Rattle.ep_base.specs.Air.Heard.{RoundEnd, Turn, end_of, place_of}
+use Rattle.ep_base.specs.Air.Heard.{RoundEnd, RoundTurn, end_of, place_of}
 use Rattle.ep_base.specs.Poll.Round.{Stage, round_hears}
 use Rattle.ep_rules.specs.EntryPoint.Talk.{Round, by_end, rounds}
 use Rattle.ep_claim.specs.Lanes.Standing.{after_stage}
@@ -24,15 +24,15 @@ pub returns-in_default-clause-turned : goal.returns-in_default-clause-turned
 returns-in_default-clause-turned c = λ talk results before next stage at code comes.
     let h = heard_of c.args.heard.now in
     let none : None ≡ end_of (round_hears stage h) = ap (λ (o : Option cards.RoundEnd). maybe_end o) (sym c.in_default.is) ∙ c.heard.ensures.end ∙ ap (λ (s : Option Stage). end_of (turn_in s h)) at in
-    rolls_on talk results (before ++ told_by c.args.events.now.items) (round_hears stage h) c.args.fsdi c.args.presentation.now.round.left c.args.presentation.now.round.collided next c.heard.new.self c.ask.result none
-    (c.heard.ensures.stage ∙ ap (λ (s : Option Stage). place_of (turn_in s h)) at) (c.heard.ensures.fsdi ∙ code) c.ask.ensures.asked comes
+    rolls_on talk results (before ++ told_by c.args.events.now.items) (round_hears stage h) c.args.fsdi c.args.presentation.now.round.left c.args.presentation.now.round.collided next c.heard.new.self c.ask_into.new.ask none
+    (c.heard.ensures.stage ∙ ap (λ (s : Option Stage). place_of (turn_in s h)) at) (c.heard.ensures.fsdi ∙ code) c.ask_into.ensures.asked comes
 
 pub returns-clause-turned : goal.returns-clause-turned
 returns-clause-turned c = λ talk results before next stage at code comes.
     let h = heard_of c.args.heard.now in
     let e : RoundEnd = round_end_of c.in-Some.end in
     let some : Some e ≡ end_of (round_hears stage h) = ap (λ (o : Option cards.RoundEnd). maybe_end o) (sym c.in-Some.is) ∙ c.heard.ensures.end ∙ ap (λ (s : Option Stage). end_of (turn_in s h)) at in
-    subst (λ (t : Turn Stage). RoundTurned c.args.fsdi (link_held c.after_round.new.link) (onward_of c.after_round.result c.after_round.new.ask c.after_round.new.round c.after_round.new.selection) talk (after_stage c.args.fsdi talk results t) (before ++ told_by c.after_round.new.events.items) next)
+    subst (λ (t : RoundTurn Stage). RoundTurned c.args.fsdi (link_held c.after_round.new.link) (onward_of c.after_round.result c.after_round.new.ask c.after_round.new.round c.after_round.new.selection) talk (after_stage c.args.fsdi talk results t) (before ++ told_by c.after_round.new.events.items) next)
     (sym (ends_with (round_hears stage h) e some))
     (c.after_round.ensures.turned talk (results ++ Round e ∷ []) before next
     (hears_round talk results (before ++ told_by c.args.events.now.items)
@@ -46,14 +46,14 @@ returns-clause-rounds c = λ stage at room.
     let pushed = on_ok c.try_push-full.result (c.try_push-full.ensures.variant.1 (omega (arith, room))) c.try_push-full.ensures.ok in
     one_end c.args.presentation.now.rounds.items c.try_push-full.new.self.items c.copy.result pushed
     ∙ ap (λ (x : cards.RoundEnd). ends_of c.args.presentation.now.rounds.items ++ round_end_of x ∷ []) c.copy.ensures
-    ∙ ap (λ (t : Turn Stage). ends_after t (ends_of c.args.presentation.now.rounds.items)) (sym (ends_with (round_hears stage h) e some))
+    ∙ ap (λ (t : RoundTurn Stage). ends_after t (ends_of c.args.presentation.now.rounds.items)) (sym (ends_with (round_hears stage h) e some))
 
 pub returns-clause-kept : goal.returns-clause-kept
 returns-clause-kept c = λ stage at.
     let h = heard_of c.args.heard.now in
     let e : RoundEnd = round_end_of c.in-Some.end in
     let some : Some e ≡ end_of (round_hears stage h) = ap (λ (o : Option cards.RoundEnd). maybe_end o) (sym c.in-Some.is) ∙ c.heard.ensures.end ∙ ap (λ (s : Option Stage). end_of (turn_in s h)) at in
-    c.after_round.ensures.kept ∙ ap (λ (t : Turn Stage). kept_turned t (kept_of (link_held c.args.presentation.now.link))) (sym (ends_with (round_hears stage h) e some))
+    c.after_round.ensures.kept ∙ ap (λ (t : RoundTurn Stage). kept_turned t (kept_of (link_held c.args.presentation.now.link))) (sym (ends_with (round_hears stage h) e some))
 
 pub returns-clause-fits : goal.returns-clause-fits
 returns-clause-fits c = λ room none.

@@ -6,5 +6,5 @@ use Rattle.session_phases.proofs.running.after_command.Goals as goal
 pub returns-clause-wishes : goal.returns-clause-wishes
 returns-clause-wishes g c = λ talk results before h.
     c.go_on.ensures.wishes talk results before
-    (moved g.K.Kernels.steps c.args.prepared.now.list c.args.arena.now.objects talk results before (told_by c.args.events.now.items) (g.K.Kernels.state c.args.kernels.now) c.args.selection.now.rest c.args.response.now
+    (moved g.K.Kernels.steps c.args.prepared.now.list c.args.arena.now.objects talk results before (told_by c.args.events.now.items) (g.K.Kernels.state c.args.kernels.now) c.args.selection.now.rest c.args.selection.now.response
     (g.K.Kernels.state c.step-step.new.self) (move_of c.step-step.result) c.step-step.ensures.step c.step-step.ensures.counts h)

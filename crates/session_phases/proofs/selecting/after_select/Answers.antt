@@ -10,11 +10,11 @@ pub returns-then-is_success-clause-wishes : goal.returns-then-is_success-clause-
 returns-then-is_success-clause-wishes g c = λ talk results before h.
     c.activate.ensures.wishes talk results before
     (chosen g.K.Kernels.steps c.args.prepared.now.list c.args.arena.now.objects talk results before (told_by c.args.events.now.items) (g.K.Kernels.state c.args.kernels.now)
-    c.args.selection.now.rest c.args.selection.now.given c.answered-selection.result c.args.response.now (sym c.is_success.ensures ∙ c.if-is_success.true)
-    (λ x is. c.answered-selection.ensures ∙ ap (λ (given : Activation). with_fci given (data_of c.args.response.now)) is) h)
+    c.args.selection.now.rest c.args.selection.now.given c.put_answer.new.given c.args.selection.now.response (sym c.is_success.ensures ∙ c.if-is_success.true)
+    (λ x is. c.put_answer.ensures ∙ ap (λ (given : Activation). with_fci given (data_of c.args.selection.now.response)) is) h)
 
 pub returns-clause-wishes : goal.returns-clause-wishes
 returns-clause-wishes g c = λ talk results before h.
     c.select_left.ensures.wishes talk results before
     (passed g.K.Kernels.steps c.args.prepared.now.list c.args.arena.now.objects talk results before (told_by c.args.events.now.items) (g.K.Kernels.state c.args.kernels.now)
-    c.args.selection.now.rest c.args.selection.now.given c.args.response.now (sym c.is_success.ensures ∙ c.if-is_success.false) h)
+    c.args.selection.now.rest c.args.selection.now.given c.args.selection.now.response (sym c.is_success.ensures ∙ c.if-is_success.false) h)

@@ -1,4 +1,4 @@
-use Rattle.std.proofs.Common.{◌≤◌, arith}
+use Rattle.std.proofs.Common.{arith}
 use Rattle.doc_table.specs.Section.{place}
 use Rattle.acquirer_config.proofs.Accepted.{accepted_list_at}
 use Rattle.acquirer_config.proofs.config.Config.of_table.Goals as goal

@@ -1,4 +1,4 @@
-use Rattle.std.proofs.Common.{◌≡◌, ◌≤◌, ℕ, true, List, length, sym, subst, rules, arith, ap, length-append}
+use Rattle.std.proofs.Common.{◌≡◌, ℕ, true, List, sym, subst, arith}
 use Rattle.std.proofs.lemmas.Grind.{common_steps}
 use Rattle.ep_base.specs.Cards.Apdu.{is_command, select}
 use Rattle.apdu.proofs.Selecting.{select-is_command}

@@ -6,7 +6,7 @@ use Rattle.ep_base.specs.Link.LinkFrames.{Kept, heard_block}
 use Rattle.ep_base.specs.Link.LinkEvents.{exchange_of}
 use Rattle.rf_frame.specs.Meaning.{heard_of}
 use Rattle.block_reader.specs.Progress.{course, StepShows}
-use Rattle.block_reader.specs.Said.{said_of}
+use Rattle.block_reader.specs.ReadBlocks.{said_of}
 use Rattle.block_reader.specs.Stands.{Held, held}
 use Rattle.block_reader.specs.declared.stages.Step.TheVariants as step
 use Rattle.block_reader.proofs.Standing.{counted_open, open_counted, open_rests, step_on, asks_again, kept_again, asks_next, kept_next, gives, kept_given, breaks, kept_broken, kept_as, breach_as}

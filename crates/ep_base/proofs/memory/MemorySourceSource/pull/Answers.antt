@@ -1,4 +1,4 @@
-use Rattle.std.proofs.Common.{◌≡◌, false, rules, arith}
+use Rattle.std.proofs.Common.{◌≡◌, false, arith}
 use Rattle.ep_base.specs.Streams.Memory.{is_listed}
 use Rattle.ep_base.proofs.memory.MemorySourceSource.pull.Goals as goal
 

@@ -1,5 +1,5 @@
 use Rattle.std.proofs.Common.{arith}
-use Rattle.kernel_port.proofs.Counts.{steps_taken, scripts_taken}
+use Rattle.ep_rules.proofs.ScriptCounts.{steps_taken, scripts_taken}
 use Rattle.kernel_port.proofs.scripts.ScriptsKernels.begin.Goals as goal
 
 pub returns-clause-commands : goal.returns-clause-commands

@@ -1,6 +1,6 @@
 use Rattle.std.specs.Option.{option_copied}
 use Rattle.kernel_port.specs.Kernels.{move_of}
-use Rattle.kernel_port.proofs.Counts.{counts_fall}
+use Rattle.ep_rules.proofs.ScriptCounts.{counts_fall}
 use Rattle.kernel_port.proofs.scripts.ScriptsKernels.step.Goals as goal
 
 pub returns-clause-counts : goal.returns-clause-counts

@@ -2,7 +2,6 @@ use Rattle.law_round.specs.Acting.{is_open, shown}
 use Rattle.law_round.proofs.Acting.{field_acts_law}
 use Rattle.link.specs.Answers.{reply_of}
 use Rattle.link.specs.Radio.{link_of}
-use Rattle.rf_field.specs.Fields.{field_of}
 use Rattle.link_tests.specs.OneCommand.{radio_of}
 use Rattle.link_tests.proofs.Fielding.{command_reader, heard_leaves, linked_after, of_link, one_command, some_link}
 use Rattle.link_tests.proofs.field_reader.FieldReader.transact.Goals as goal

@@ -1,7 +1,8 @@
 use Rattle.std.proofs.Common.{rules, ◌≡◌, ◌≤◌, ℕ, sym, ◌∙◌, subst, ap}
 use Rattle.ep_base.specs.declared.air.CardKind.{CardKind}
 use Rattle.ep_base.specs.Link.Wire.{new_wire}
-use Rattle.rf_field.specs.Meaning.{passages}
+use Rattle.ep_base.specs.declared.limits.TheConstants.{FRAME}
+use Rattle.rf_field.specs.Meaning.{exchange_fates}
 use Rattle.link_tests.specs.Open.{end_of, far_end}
 use Rattle.link_tests.proofs.Ready.{all_fates, just_opened}
 use Rattle.link_tests.proofs.open_link.OpenLink.open.Goals as goal
@@ -13,7 +14,7 @@ returns-clause-ready c =
     c.card.inside.kind c.frame_size-fsd.result _ _ c.args.room c.in_ok-wire.ensures.ok (c.open-end.ensures.kind ∙ search rules) frame
     (subst (λ (n : ℕ). 16 ≤ n) (sym c.open-end.ensures.card) c.requires.least)
     (subst (λ (n : ℕ). 16 ≤ n) (sym frame) c.frame_size-fsd.ensures.least)
-    (subst (λ (n : ℕ). n ≤ 256) (sym frame) c.frame_size-fsd.ensures.most)
+    (subst (λ (n : ℕ). n ≤ FRAME) (sym frame) c.frame_size-fsd.ensures.most)
     c.number-number.ensures.limits
     (all_fates c.args.fates.items c.requires.runs) c.requires.room c.open-end.ensures.by_rules
 
@@ -21,5 +22,5 @@ pub returns-clause-card : goal.returns-clause-card
 returns-clause-card c =
     let same : c.card.inside.kind ≡ c.args.card.now.kind = search rules in
     c.in_ok-wire.ensures.ok
-    ∙ (ap (λ (k : CardKind). new_wire k c.frame_size-fsd.result c.args.image (passages c.args.fates.items) c.args.room) same
-    ∙ ap (λ (n : ℕ). new_wire c.args.card.now.kind n c.args.image (passages c.args.fates.items) c.args.room) c.frame_size-fsd.ensures.size)
+    ∙ (ap (λ (k : CardKind). new_wire k c.frame_size-fsd.result c.args.image (exchange_fates c.args.fates.items) c.args.room) same
+    ∙ ap (λ (n : ℕ). new_wire c.args.card.now.kind n c.args.image (exchange_fates c.args.fates.items) c.args.room) c.frame_size-fsd.ensures.size)

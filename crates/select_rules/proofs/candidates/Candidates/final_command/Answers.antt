@@ -1,6 +1,6 @@
 use Rattle.std.proofs.Common.{Some, ◌∙◌, ap}
 use Rattle.ep_rules.specs.EntryPoint.Configuration.{Combination}
-use Rattle.ep_rules.specs.EntryPoint.PreProcessing.{Ready}
+use Rattle.ep_rules.specs.EntryPoint.PreProcessing.{PreparedOne}
 use Rattle.select_rules.proofs.Held.{first_command, no_command}
 use Rattle.select_rules.proofs.candidates.Candidates.final_command.Goals as goal
 
@@ -14,5 +14,5 @@ returns c count left stands =
     ap Some c.select.ensures
     ∙ first_command c.args.prepared.now.list count c.args.arena.now.objects c.args.self.now c.in_ok-pair.pair left c.in_ok-name.name.now c.in_ok-one.one.now
     c.combination.inside.extended _ c.in_ok-pair.ensures.first stands c.in_ok-name.ensures.value (c.in_ok-one.ensures _ left stands)
-    (ap (λ (x : Combination). x.extended) c.combination.view_is ∙ ap (λ (r : Ready). r.combination.extended) c.one.view_is)
+    (ap (λ (x : Combination). x.extended) c.combination.view_is ∙ ap (λ (r : PreparedOne). r.combination.extended) c.one.view_is)
     c.entry_value-extension.ensures

@@ -1,5 +1,5 @@
 use Rattle.std.proofs.Common.{◌≡◌, ◌<◌, [], length, inl, arith, refl}
-use Rattle.ep_base.specs.Objects.RawBytes.{run}
+use Rattle.ep_base.specs.Objects.RawBytes.{bytes_at}
 use Rattle.tlv_arena.specs.declared.slot.Slot.{Slot}
 use Rattle.tlv_arena.specs.StoreState.{InBlock, Clear}
 use Rattle.tlv_arena.proofs.Lists.{all_set, all_of, apart-set, lens-set, objects-set}
@@ -27,7 +27,7 @@ returns c =
         within = all_set (InBlock (length b)) s.live.items c.args.i y (record { ends = omega arith; empty = λ _. refl }) is.within;
         apart = apart-set s.live.items c.args.i y is.apart (all_of (Clear y) s.live.items (λ t. inl (omega arith)));
       };
-      objects_are = objects-set b b s.live.items c.args.i x y [] inside c.index-slot.ensures refl refl refl refl (all_of (λ (t : Slot). run t.place t.len b ≡ run t.place t.len b) s.live.items (λ t. refl));
+      objects_are = objects-set b b s.live.items c.args.i x y [] inside c.index-slot.ensures refl refl refl refl (all_of (λ (t : Slot). bytes_at t.place t.len b ≡ bytes_at t.place t.len b) s.live.items (λ t. refl));
       slots = refl;
       cap = refl;
     }

@@ -2,7 +2,7 @@ use Rattle.std.proofs.Common.{◌≡◌, ◌<◌, ◌≤◌, ◌+◌, ◌++◌, 
 use Rattle.std.specs.Vec.{with_item}
 use Rattle.std.proofs.lemmas.List.{length-append, length-map, get_or-map}
 use Rattle.ep_base.specs.Objects.Arena.{Object, live_bytes}
-use Rattle.ep_base.specs.Objects.RawBytes.{Block, run}
+use Rattle.ep_base.specs.Objects.RawBytes.{RawBytes as RawBytesData, bytes_at}
 use Rattle.tlv_arena.specs.declared.slot.Slot.{Slot}
 use Rattle.tlv_arena.specs.StoreState.{object_at, objects_of, with_value, InBlock, Clear, Becomes}
 use Rattle.tlv_arena.proofs.Slide.{run_len, run-added, run-tail}
@@ -25,7 +25,7 @@ returns c =
     let more = length-append b v in
     let y_ends : p + length v ≤ length b + length v = elim (some_or_none (length v)) [ inl none ↦ omega (arith, c.tail-place.ensures.none none) | inr some ↦ omega (arith, c.tail-place.ensures.some some) ] in
     let clear : (t : Slot) → InBlock (length b) t → Clear y t = λ t h. elim (some_or_none (length v)) [ inl none ↦ inl (omega (arith, none, c.tail-place.ensures.none none)) | inr some ↦ inr (omega (arith, h.ends, c.tail-place.ensures.some some)) ] in
-    subst (λ (k : Block). Becomes c.args.self.now (with_value (objects_of c.args.self.now) i v) (record { block = k; live = with_item s.live i y; used = s.used + length v; slots = s.slots })) (sym c.append.ensures)
+    subst (λ (k : RawBytesData). Becomes c.args.self.now (with_value (objects_of c.args.self.now) i v) (record { block = k; live = with_item s.live i y; used = s.used + length v; slots = s.slots })) (sym c.append.ensures)
     (record {
       store = record {
         counted = omega (arith, sums, bare, is.counted);
@@ -39,7 +39,7 @@ returns c =
         apart = apart-set s.live.items i y is.apart (all_map (InBlock (length b)) (Clear y) s.live.items clear is.within);
       };
       objects_are = objects-set b (b ++ v) s.live.items i x y v inside e refl refl refl (run-tail b v p c.tail-place.ensures.none c.tail-place.ensures.some)
-          (all_map (InBlock (length b)) (λ (t : Slot). run t.place t.len (b ++ v) ≡ run t.place t.len b) s.live.items (λ t h. run-added t.place t.len b v h.ends) is.within)
+          (all_map (InBlock (length b)) (λ (t : Slot). bytes_at t.place t.len (b ++ v) ≡ bytes_at t.place t.len b) s.live.items (λ t h. run-added t.place t.len b v h.ends) is.within)
           ∙ ap (λ (os : List Object). with_value os i v) be.objects_are;
       slots = be.slots;
       cap = be.cap;
