@@ -1,6 +1,6 @@
 -- The bounds of what a reader's end holds (this project's own).
 use Rattle.std.specs.Prelude.{◌≡◌, Bool, true, false, ℕ, ◌+◌, ◌-◌, ◌*◌, ◌<◌, ◌≤◌}
-use Rattle.ep_base.specs.declared.limits.TheConstants.{RESPONSE}
+use Rattle.ep_base.specs.declared.limits.TheConstants.{RESPONSE, WAITS}
 use Rattle.block_reader.specs.declared.stages.Stage.{Stage}
 use Rattle.block_reader.specs.declared.stages.Stage.TheVariants as stage
 use Rattle.block_reader.specs.declared.stages.Question.{Question}
@@ -46,7 +46,7 @@ at_most stage.Closed n = n
 -- S(WTX).
 abbrev pub IsCounted : Stage → Question → ℕ → ℕ → ℕ → Type 0
 IsCounted s q bad wtx len =
-    (live s (len + at_most s (spare q)) ≤ 2 * bad + wtx) × (live s bad ≤ at_most s 2) × (live s wtx ≤ at_most s 16)
+    (live s (len + at_most s (spare q)) ≤ 2 * bad + wtx) × (live s bad ≤ at_most s 2) × (live s wtx ≤ at_most s WAITS)
 
 -- A command is open.
 abbrev pub is_open : Stage → Bool
@@ -58,7 +58,7 @@ is_open stage.Closed = false
 
 -- The same while a command is open.
 abbrev pub Counted : Question → ℕ → ℕ → ℕ → Type 0
-Counted q bad wtx len = (len + spare q ≤ 2 * bad + wtx) × (bad ≤ 2) × (wtx ≤ 16)
+Counted q bad wtx len = (len + spare q ≤ 2 * bad + wtx) × (bad ≤ 2) × (wtx ≤ WAITS)
 
 -- How many exchanges are kept after a step.
 abbrev pub CountsAfter : Step → Stage → Question → ℕ → ℕ → ℕ → Type 0

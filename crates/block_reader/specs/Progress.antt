@@ -1,5 +1,6 @@
 -- When the progress of a command stands for a state of the rules (this project's own).
 use Rattle.std.specs.Prelude.{◌≡◌, ℕ, ◌+◌, ◌-◌, ◌<◌, ◌≤◌, nat_lt, Bool, true, false, List, [], length, take, drop}
+use Rattle.ep_base.specs.declared.limits.TheConstants.{WAITS}
 use Rattle.ep_base.specs.Link.Block.{Block, I, RAck, RNak, Wtx, ReadBlock, other, is_bad, is_wtx, count}
 use Rattle.ep_base.specs.Link.Parts.{cut}
 use Rattle.ep_base.specs.Link.ReaderEnd as rules
@@ -96,7 +97,7 @@ pub record IsAt (e : Course) (r : rules.Reader) : Type 0 where
 pub record Sends (e : Course) (r : rules.Reader) : Type 0 where
   pub state : IsAt e r
   pub block : rules.asked r ≡ block_due e
-  pub few : (e.bad < 3) × (e.wtx ≤ 16)
+  pub few : (e.bad < 3) × (e.wtx ≤ WAITS)
 
 -- Where a step leads from a reader at this hearing.
 pub record Goes (e : Course) (h : ReadBlock) (r q : rules.Reader) : Type 0 where

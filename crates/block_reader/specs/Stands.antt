@@ -1,5 +1,6 @@
 -- When a reader's end stands for a state of the rules, and what it says then (this project's own).
 use Rattle.std.specs.Prelude.{◌≡◌, ℕ, ◌+◌, ◌-◌, ◌*◌, Bool, true, false, List, [], ◌∷◌, length, reverse}
+use Rattle.ep_base.specs.declared.limits.TheConstants.{BETWEEN_TOGGLES}
 use Rattle.ep_base.specs.Air.Heard.{Heard}
 use Rattle.ep_base.specs.Link.Block.{ReadBlock, is_bad, count}
 use Rattle.ep_base.specs.Link.ReaderEnd.{Reader, Idle, ReaderTurn, Asks, Gives, Spends, Breaks, asked}
@@ -130,4 +131,4 @@ is_done (Failed end) = false
 
 -- What bounds the exchanges that a command still takes: each hearing that is asked on leaves less.
 abbrev pub left_of : Held → ℕ
-left_of e = 32 * counts.ahead e.course.stage (length e.course.command) e.course.place (length e.course.got) + (32 - length e.since)
+left_of e = BETWEEN_TOGGLES * counts.ahead e.course.stage (length e.course.command) e.course.place (length e.course.got) + (BETWEEN_TOGGLES - length e.since)

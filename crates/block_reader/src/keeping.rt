@@ -11,7 +11,7 @@ use crate::asking::put_frame;
 use crate::progress::Progress;
 use crate::stages::Question;
 use arrayvec::ArrayVec;
-use ep_base::{CardKind, FrameBuf};
+use ep_base::{BETWEEN_TOGGLES, CardKind, FrameBuf};
 use rf_frame::Heard;
 
 impl Progress {
@@ -22,10 +22,10 @@ impl Progress {
         question: Question,
         kind: CardKind,
         heard: &Heard,
-        since: &mut ArrayVec<Kept, 32>,
+        since: &mut ArrayVec<Kept, BETWEEN_TOGGLES>,
     )
         requires lawful { IsLawful question }
-        requires room { array_vec_len since.old < 32 }
+        requires room { array_vec_len since.old < BETWEEN_TOGGLES }
         ensures items { since.new.items ≡ since.old.items ++ record { sent = (block_frame kind (block_from question (carried (course self.now)))).bytes; heard = heard_of heard.now } ∷ [] }
         ensures len { array_vec_len since.new ≡ array_vec_len since.old + 1 }
     {
@@ -39,7 +39,7 @@ impl Progress {
 }
 
 /// Keeps no exchange from now on. This costs nothing where none is kept.
-pub(crate) fn forget(since: &mut ArrayVec<Kept, 32>)
+pub(crate) fn forget(since: &mut ArrayVec<Kept, BETWEEN_TOGGLES>)
     ensures none { since.new.items ≡ [] }
 {
     if !since.is_empty() {

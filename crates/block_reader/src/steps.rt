@@ -11,6 +11,7 @@ use crate::hearing::ReadBlock;
 use crate::progress::Progress;
 use crate::stages::{Question, Stage, Step};
 use block_pcb::Block;
+use ep_base::WAITS;
 
 impl Progress {
     /// A bad hearing.
@@ -50,7 +51,7 @@ impl Progress {
         ensures whole { IsWhole result self.new.got.items }
     {
         let _power = power;
-        if self.wtx >= 16 {
+        if usize::from(self.wtx) >= WAITS {
             return Step::Breach;
         }
         self.wtx += 1;

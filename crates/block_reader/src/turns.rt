@@ -23,7 +23,7 @@ use crate::{Follows, Kept, LinkEnd, Next, ReaderEnd};
 use apdu::{Command, Response};
 use arrayvec::ArrayVec;
 use block_pcb::Block;
-use ep_base::{FRAME, frame_size};
+use ep_base::{BETWEEN_TOGGLES, FRAME, frame_size};
 use rf_frame::{Activated, Ask, Heard};
 
 impl ReaderEnd {
@@ -285,7 +285,7 @@ impl ReaderEnd {
     /// The exchanges since the block number's last toggle, or since the link was opened, in order.
     pub fn since_toggle(&self) -> &[Kept]
         ensures exchanges { result.now ≡ (held self.now).since }
-        ensures most { length result.now ≤ 32 }
+        ensures most { length result.now ≤ BETWEEN_TOGGLES }
     {
         self.since.as_slice()
     }

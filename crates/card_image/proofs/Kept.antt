@@ -5,7 +5,8 @@ use Rattle.std.specs.Prelude.{All}
 use Rattle.std.proofs.lemmas.Option.{slice_get_within, get_or_from_slice_get, unwrap_or-slice_get}
 use Rattle.ep_base.specs.Cards.Apdu.{same_bytes, command_data, ppse_name, is_9000}
 use Rattle.ep_base.specs.Cards.CardAnswer.{Answers, Answered, Rule, App, Image, IsResponse, AreAnswers, IsRule, IsApp, IsImage, IsAnswer, next_answer, plain, file_not_found, unknown_instruction, not_allowed_now, is_select, deselected, app_answer, app_selected, rule_answer, by_rule, by_rule_place, app_executes, in_app, other_answer, by_app, by_place, select_answer, ppse_answer, card_answer}
-use Rattle.card_image.proofs.Limits.{used_keeps, app_keeps, executes_keeps}
+use Rattle.ep_base.proofs.Images.{used_keeps, app_keeps}
+use Rattle.card_image.proofs.Limits.{executes_keeps}
 use Rattle.card_image.proofs.Selected.{with_app_keeps, chosen}
 
 within : (list : List (List ℕ)) (k : ℕ) (empty : List ℕ) → All IsResponse list → k < length list → IsResponse (unwrap_or (slice_get list k) empty)

@@ -3,7 +3,7 @@ use Rattle.std.proofs.Common.{◌≡◌, ℕ, ◌≤◌, ◌<◌, List, [], leng
 use Rattle.std.specs.Prelude.{All}
 use Rattle.std.proofs.lemmas.List.Elements.{All-nil}
 use Rattle.ep_base.specs.Cards.CardAnswer.{Rule, App, unused, new_image, IsResponse, AreAnswers, IsRule, IsApp, IsImage}
-use Rattle.ep_base.specs.declared.limits.TheConstants.{COMMAND, RESPONSE}
+use Rattle.ep_base.specs.declared.limits.TheConstants.{ANSWERS, ANSWER_WAITS, APPLICATIONS, COMMAND, RESPONSE, RULES}
 use Rattle.doc_table.specs.declared.list.ElementKind.TheVariants as elements
 use Rattle.doc_table.specs.Read.{Place, list_of, integer_in, byte_text, table_of, required, defaulted}
 use Rattle.doc_table.proofs.Accepted.{Accepts, after, accepted_integer, accepted_bytes, accepted_required, accepted_defaulted, accepted_list}
@@ -15,21 +15,21 @@ accepted_response = record { is = λ path d r e. let h = (accepted_bytes 2 RESPO
 -- A list of 1 to 16 responses.
 record AreSome (list : List (List ℕ)) : Type 0 where
   each : All IsResponse list
-  few : length list ≤ 16
+  few : length list ≤ ANSWERS
   some : 0 < length list
 
-accepted_responses : Accepts (list_of elements.Text 1 16 response) AreSome
+accepted_responses : Accepts (list_of elements.Text 1 ANSWERS response) AreSome
 accepted_responses = record {
   is = λ path d list e.
-      let all = (accepted_list elements.Text 1 16 response IsResponse accepted_response).is path d list e in
+      let all = (accepted_list elements.Text 1 ANSWERS response IsResponse accepted_response).is path d list e in
       record { each = all.each; few = all.most; some = omega (arith, all.least) };
 }
 
-answers : (list : List (List ℕ)) → All IsResponse list → length list ≤ 16 → AreAnswers (unused list)
+answers : (list : List (List ℕ)) → All IsResponse list → length list ≤ ANSWERS → AreAnswers (unused list)
 answers list each few = record { each = each; few = few; given = omega arith }
 
-accepted_extensions : (place : Place) (n : ℕ) → extensions place ≡ Ok n → n ≤ 8
-accepted_extensions place n e = (accepted_defaulted (integer_in 0 8) _ 0 (codes "wtx") place n (accepted_integer 0 8) (omega arith, omega arith) e).1
+accepted_extensions : (place : Place) (n : ℕ) → extensions place ≡ Ok n → n ≤ ANSWER_WAITS
+accepted_extensions place n e = (accepted_defaulted (integer_in 0 ANSWER_WAITS) _ 0 (codes "wtx") place n (accepted_integer 0 ANSWER_WAITS) (omega arith, omega arith) e).1
 
 accepted_multiplier : (place : Place) (n : ℕ) → multiplier place ≡ Ok n → (1 ≤ n) × (n ≤ 59)
 accepted_multiplier place n e = accepted_defaulted (integer_in 1 59) _ 1 (codes "wtxm") place n (accepted_integer 1 59) (omega arith, omega arith) e
@@ -38,7 +38,7 @@ rule_is : (place : Place) (r : Rule) → rule_at place ≡ Ok r → IsRule r
 unfolding rule_at
 rule_is place r e =
     after (required (byte_text 1 COMMAND) (codes "prefix") place) _ r e (λ prefix is_prefix e1.
-    after (required (list_of elements.Text 1 16 response) (codes "responses") place) _ r e1 (λ responses is_responses e2.
+    after (required (list_of elements.Text 1 ANSWERS response) (codes "responses") place) _ r e1 (λ responses is_responses e2.
     after (extensions place) _ r e2 (λ wtx is_wtx e3.
     after (multiplier place) _ r e3 (λ wtxm is_wtxm e4.
     let made : Rule = record { prefix = prefix; responses = unused responses; wtx = wtx; wtxm = wtxm } in
@@ -62,21 +62,21 @@ accepted_rule = record { is = λ path d r e. after (table_of rule_keys path d) _
 -- At most 32 rules.
 record AreRules (rules : List Rule) : Type 0 where
   each : All IsRule rules
-  few : length rules ≤ 32
+  few : length rules ≤ RULES
 
-accepted_rules : Accepts (list_of elements.Table 0 32 rule) AreRules
+accepted_rules : Accepts (list_of elements.Table 0 RULES rule) AreRules
 accepted_rules = record {
-  is = λ path d rules e. let all = (accepted_list elements.Table 0 32 rule IsRule accepted_rule).is path d rules e in record { each = all.each; few = all.most };
+  is = λ path d rules e. let all = (accepted_list elements.Table 0 RULES rule IsRule accepted_rule).is path d rules e in record { each = all.each; few = all.most };
 }
 
 app_is : (place : Place) (a : App) → app_at place ≡ Ok a → IsApp a
 unfolding app_at
 app_is place a e =
     after (required (byte_text 5 16) (codes "name") place) _ a e (λ name is_name e1.
-    after (required (list_of elements.Text 1 16 response) (codes "select") place) _ a e1 (λ selects is_selects e2.
+    after (required (list_of elements.Text 1 ANSWERS response) (codes "select") place) _ a e1 (λ selects is_selects e2.
     after (extensions place) _ a e2 (λ wtx is_wtx e3.
     after (multiplier place) _ a e3 (λ wtxm is_wtxm e4.
-    after (defaulted [] (list_of elements.Table 0 32 rule) (codes "rules") place) _ a e4 (λ rules is_rules e5.
+    after (defaulted [] (list_of elements.Table 0 RULES rule) (codes "rules") place) _ a e4 (λ rules is_rules e5.
     let made : App = record { name = name; selects = unused selects; wtx = wtx; wtxm = wtxm; rules = rules } in
     let same : made ≡ a = cc in
     let of_name = accepted_required _ _ (codes "name") place _ (accepted_bytes 5 16) is_name in
@@ -102,16 +102,16 @@ accepted_app = record { is = λ path d a e. after (table_of app_keys path d) _ a
 -- At most 16 applications.
 record AreApps (apps : List App) : Type 0 where
   each : All IsApp apps
-  few : length apps ≤ 16
+  few : length apps ≤ APPLICATIONS
 
-accepted_apps : Accepts (list_of elements.Table 0 16 app) AreApps
+accepted_apps : Accepts (list_of elements.Table 0 APPLICATIONS app) AreApps
 accepted_apps = record {
-  is = λ path d apps e. let all = (accepted_list elements.Table 0 16 app IsApp accepted_app).is path d apps e in record { each = all.each; few = all.most };
+  is = λ path d apps e. let all = (accepted_list elements.Table 0 APPLICATIONS app IsApp accepted_app).is path d apps e in record { each = all.each; few = all.most };
 }
 
-accepted_ppse : Accepts (list_of elements.Text 0 16 response) (λ list. AreAnswers (unused list))
+accepted_ppse : Accepts (list_of elements.Text 0 ANSWERS response) (λ list. AreAnswers (unused list))
 accepted_ppse = record {
-  is = λ path d list e. let all = (accepted_list elements.Text 0 16 response IsResponse accepted_response).is path d list e in answers list all.each all.most;
+  is = λ path d list e. let all = (accepted_list elements.Text 0 ANSWERS response IsResponse accepted_response).is path d list e in answers list all.each all.most;
 }
 
 -- What a card's table says of its answers is an image within its limits, whatever its number.

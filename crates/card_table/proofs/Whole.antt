@@ -1,6 +1,7 @@
 -- The cards of a transaction that are accepted are within their limits, apart, and numbered.
 use Rattle.std.proofs.Common.{◌≡◌, ℕ, ◌≤◌, ◌<◌, List, [], ◌∷◌, length, codes, Bool, true, Result, Ok, Err, sym, subst, arith}
 use Rattle.std.specs.Prelude.{IfOk, slice_index}
+use Rattle.ep_base.specs.declared.limits.TheConstants.{CARDS}
 use Rattle.ep_base.specs.declared.air.CardKind.{CardKind}
 use Rattle.ep_base.specs.declared.air.CardKind.TheVariants.{A, B}
 use Rattle.ep_base.specs.Cards.CardAnswer.{App}
@@ -114,8 +115,8 @@ accepted_card = record {
       after (required card_kind (codes "kind") (record { path = path; members = members })) _ c e1 (λ kind _ is. (accepted_of_kind kind).is path d c is));
 }
 
-pub listed_few : (path : List ℕ) (d : Data) (cards : List Card) → list_of elements.Table 0 4 card path d ≡ Ok cards → length cards ≤ 4
-listed_few path d cards e = ((accepted_list elements.Table 0 4 card IsCard accepted_card).is path d cards e).most
+pub listed_few : (path : List ℕ) (d : Data) (cards : List Card) → list_of elements.Table 0 CARDS card path d ≡ Ok cards → length cards ≤ CARDS
+listed_few path d cards e = ((accepted_list elements.Table 0 CARDS card IsCard accepted_card).is path d cards e).most
 
 all_apart : (path : List ℕ) (cards : List Card) (u : Unit {0}) → all_new path [] cards ≡ Ok u → AreApart (names (placed_from 1 cards))
 all_apart path cards u e = subst AreApart (sym (names_of 1 cards)) (accepted_apart path cards u e)
@@ -123,9 +124,9 @@ all_apart path cards u e = subst AreApart (sym (names_of 1 cards)) (accepted_apa
 accepted_cards : Accepts card_list AreCards
 accepted_cards = record {
   is = λ path d cards e.
-      after (list_of elements.Table 0 4 card path d) _ cards e (λ listed is e1.
+      after (list_of elements.Table 0 CARDS card path d) _ cards e (λ listed is e1.
       after (all_new path [] listed) _ cards e1 (λ u new e2.
-      let all = (accepted_list elements.Table 0 4 card IsCard accepted_card).is path d listed is in
+      let all = (accepted_list elements.Table 0 CARDS card IsCard accepted_card).is path d listed is in
       let same : listed ≡ cards = cc in
       subst AreCards same (record {
         few = all.most;

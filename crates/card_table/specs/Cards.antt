@@ -15,7 +15,7 @@ use Rattle.ep_base.specs.Cards.TypeB.{BIdle}
 use Rattle.type_a.specs.Plan as TypeA
 use Rattle.type_b.specs.Card as TypeB
 use Rattle.ep_base.specs.Cards.Lawful.{IsFormed, kind_of, id_of}
-use Rattle.ep_base.specs.declared.limits.TheConstants.{COMMAND, RESPONSE}
+use Rattle.ep_base.specs.declared.limits.TheConstants.{ANSWERS, ANSWER_WAITS, APPLICATIONS, CARDS, COMMAND, RESPONSE, RULES}
 use Rattle.doc_table.specs.Fault.{Fault}
 use Rattle.doc_table.specs.Path.{key_path, element_path}
 use Rattle.doc_table.specs.declared.fault.DocKind.TheVariants.{Conflict}
@@ -45,7 +45,7 @@ response = byte_text 2 RESPONSE
 
 -- How many S(WTX) come before a response (this project's profile).
 abbrev pub extensions : Place → Result ℕ Fault
-extensions place = defaulted 0 (integer_in 0 8) (codes "wtx") place
+extensions place = defaulted 0 (integer_in 0 ANSWER_WAITS) (codes "wtx") place
 
 -- Their WTXM (this project's profile).
 abbrev pub multiplier : Place → Result ℕ Fault
@@ -59,7 +59,7 @@ rule_keys = codes "prefix" ∷ codes "responses" ∷ codes "wtx" ∷ codes "wtxm
 unfoldable pub rule_at : Place → Result Rule Fault
 rule_at place = do
   prefix ← required (byte_text 1 COMMAND) (codes "prefix") place
-  responses ← required (list_of elements.Text 1 16 response) (codes "responses") place
+  responses ← required (list_of elements.Text 1 ANSWERS response) (codes "responses") place
   wtx ← extensions place
   wtxm ← multiplier place
   Ok (record { prefix = prefix; responses = unused responses; wtx = wtx; wtxm = wtxm })
@@ -78,10 +78,10 @@ app_keys = codes "name" ∷ codes "select" ∷ codes "wtx" ∷ codes "wtxm" ∷ 
 unfoldable pub app_at : Place → Result App Fault
 app_at place = do
   name ← required (byte_text 5 16) (codes "name") place
-  selects ← required (list_of elements.Text 1 16 response) (codes "select") place
+  selects ← required (list_of elements.Text 1 ANSWERS response) (codes "select") place
   wtx ← extensions place
   wtxm ← multiplier place
-  rules ← defaulted [] (list_of elements.Table 0 32 rule) (codes "rules") place
+  rules ← defaulted [] (list_of elements.Table 0 RULES rule) (codes "rules") place
   Ok (record { name = name; selects = unused selects; wtx = wtx; wtxm = wtxm; rules = rules })
 
 -- An application's table (this project's own).
@@ -130,11 +130,11 @@ waiting_code place = defaulted 4 (integer_in 0 14) (codes "fwi") place
 
 -- The answers to SELECT PPSE (this project's own).
 abbrev pub ppse_list : Place → Result (List (List ℕ)) Fault
-ppse_list place = defaulted [] (list_of elements.Text 0 16 response) (codes "ppse") place
+ppse_list place = defaulted [] (list_of elements.Text 0 ANSWERS response) (codes "ppse") place
 
 -- The applications (this project's own).
 abbrev pub app_list : Place → Result (List App) Fault
-app_list place = defaulted [] (list_of elements.Table 0 16 app) (codes "apps") place
+app_list place = defaulted [] (list_of elements.Table 0 APPLICATIONS app) (codes "apps") place
 
 -- The keys of a card of Type A, in the order in which they are checked (this project's own).
 abbrev pub a_keys : List (List ℕ)
@@ -220,7 +220,7 @@ all_new path before (c ∷ cs) = do
 -- An array of cards, at most four, of which no two are the same (this project's own).
 abbrev pub card_list : Reader (List Card)
 card_list path d = do
-  cards ← list_of elements.Table 0 4 card path d
+  cards ← list_of elements.Table 0 CARDS card path d
   new ← all_new path [] cards
   Ok cards
 

@@ -1,5 +1,6 @@
 -- The cards of a document in a field, by their numbers (this project's own).
 use Rattle.std.specs.Prelude.{ℕ, ◌+◌, ◌≤◌, List, [], ◌∷◌, length}
+use Rattle.ep_base.specs.declared.limits.TheConstants.{CARDS}
 use Rattle.ep_base.specs.Cards.CardAnswer.{Image, new_image}
 use Rattle.ep_base.specs.Cards.Field.{Outside, OfA, OfB, Placed, placed_a, placed_b}
 use Rattle.ep_base.specs.Cards.Lawful.{ArePlaced, names, AreApart}
@@ -23,7 +24,7 @@ placed_from number (c ∷ cs) = placed number c ∷ placed_from (number + 1) cs
 -- The cards of a transaction: at most four, each within its limits, no two of one kind with the same identifier, each with a number of its own (this
 -- project's own).
 pub record AreCards (cards : List Card) : Type 0 where
-  pub few : length cards ≤ 4
+  pub few : length cards ≤ CARDS
   pub placed : ArePlaced (placed_from 1 cards)
   pub apart : AreApart (names (placed_from 1 cards))
   pub distinct : AreDistinct (numbers (placed_from 1 cards))

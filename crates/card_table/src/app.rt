@@ -8,7 +8,7 @@ use crate::codes::{extensions, multiplier};
 use apdu::Response;
 use card_image::{App, Rule};
 use doc_table::{ListOf, Path, Read, Section, TableEnd, byte_text};
-use ep_base::{COMMAND, RESPONSE};
+use ep_base::{ANSWERS, COMMAND, RESPONSE, RULES};
 use std::alloc::Global;
 use toml::Value;
 
@@ -73,7 +73,7 @@ fn rule_at(alloc: Global, section: &Section) -> Result<Rule, TableEnd>
     ensures { GivesIfRoom (λ r. r) result (rule_at (place section.now)) }
 {
     let prefix = section.required_bytes::<COMMAND>("prefix", 1)?;
-    let responses = ListOf::texts(1, 16, ResponseText);
+    let responses = ListOf::texts(1, ANSWERS, ResponseText);
     let responses = section.required(alloc, "responses", &responses)?;
     let wtx = extensions(section)?;
     let wtxm = multiplier(section)?;
@@ -115,11 +115,11 @@ fn app_at(alloc: Global, section: &Section) -> Result<App, TableEnd>
     ensures { GivesIfRoom (λ a. a) result (app_at (place section.now)) }
 {
     let name = section.required_bytes("name", 5)?;
-    let responses = ListOf::texts(1, 16, ResponseText);
+    let responses = ListOf::texts(1, ANSWERS, ResponseText);
     let select = section.required(alloc, "select", &responses)?;
     let wtx = extensions(section)?;
     let wtxm = multiplier(section)?;
-    let rules = ListOf::tables(0, 32, RuleTable);
+    let rules = ListOf::tables(0, RULES, RuleTable);
     let rules = section.defaulted(alloc, "rules", &rules, Vec::new(alloc))?;
     Ok(App {
         name,

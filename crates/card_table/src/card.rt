@@ -12,7 +12,7 @@ use crate::type_plan::TypePlan;
 use apdu::Response;
 use card_image::App;
 use doc_table::{DocFault, DocKind, ListOf, Path, Read, Section, TableEnd, table_in};
-use ep_base::{Buf, CardKind};
+use ep_base::{ANSWERS, APPLICATIONS, Buf, CardKind};
 use std::alloc::Global;
 use std::marker::Model;
 use toml::Value;
@@ -162,7 +162,7 @@ fn ppse_of(alloc: Global, section: &Section) -> Result<Vec<Response>, TableEnd>
     requires { length section.now.path.now + 42 ≤ 96 }
     ensures { GivesIfRoom (λ v. v.items) result (ppse_list (place section.now)) }
 {
-    let answers = ListOf::texts(0, 16, ResponseText);
+    let answers = ListOf::texts(0, ANSWERS, ResponseText);
     section.defaulted(alloc, "ppse", &answers, Vec::new(alloc))
 }
 
@@ -171,6 +171,6 @@ fn apps_of(alloc: Global, section: &Section) -> Result<Vec<App>, TableEnd>
     requires { length section.now.path.now + 42 ≤ 96 }
     ensures { GivesIfRoom (λ v. v.items) result (app_list (place section.now)) }
 {
-    let tables = ListOf::tables(0, 16, AppTable);
+    let tables = ListOf::tables(0, APPLICATIONS, AppTable);
     section.defaulted(alloc, "apps", &tables, Vec::new(alloc))
 }

@@ -12,6 +12,7 @@ ghost use Rattle.card_table.specs.Placing.{placed_from};
 use crate::card::{Card, CardTable};
 use crate::type_plan::TypePlan;
 use doc_table::{DocFault, DocKind, ListOf, Path, Read, Section, TableEnd};
+use ep_base::CARDS;
 use std::alloc::Global;
 use toml::Value;
 
@@ -22,7 +23,7 @@ use toml::Value;
 pub fn cards_of(alloc: Global, section: &Section) -> Result<Vec<Card>, TableEnd>
     requires { length section.now.path.now + 55 ≤ 96 }
     ensures value { GivesIfRoom (λ v. v.items) result (cards_at (place section.now)) }
-    ensures few { IfOk result (λ v. length v.items ≤ 4) }
+    ensures few { IfOk result (λ v. length v.items ≤ CARDS) }
     ensures placed { IfOk result (λ v. ArePlaced (placed_from 1 v.items)) }
     ensures apart { IfOk result (λ v. AreApart (names (placed_from 1 v.items))) }
     ensures distinct { IfOk result (λ v. AreDistinct (numbers (placed_from 1 v.items))) }
@@ -49,7 +50,7 @@ impl Read for CardList {
     ghost room = { 49 };
 
     fn read(&self, alloc: Global, path: &Path, value: &Value) -> Result<Vec<Card>, TableEnd> {
-        let cards = ListOf::tables(0, 4, CardTable).read(alloc, path, value)?;
+        let cards = ListOf::tables(0, CARDS, CardTable).read(alloc, path, value)?;
         all_new(path, &cards)?;
         Ok(cards)
     }

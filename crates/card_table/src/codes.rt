@@ -4,13 +4,14 @@ ghost use Rattle.doc_table.specs.Section.{place};
 ghost use Rattle.card_table.specs.Cards.{extensions, multiplier, frame_code, waiting_code};
 
 use doc_table::{DocFault, Section};
+use ep_base::ANSWER_WAITS;
 
 /// How many S(WTX) come before a response, 0 to 8.
 pub(crate) fn extensions(section: &Section) -> Result<u8, DocFault>
     requires { length section.now.path.now + 5 ≤ 96 }
     ensures value { result ≡ extensions (place section.now) }
 {
-    let count = section.integer_or("wtx", 0, 0, 8)?;
+    let count = section.integer_or("wtx", 0, 0, ANSWER_WAITS as u64)?;
     Ok(count as u8)
 }
 

@@ -3,6 +3,7 @@ ghost use Rattle.std.specs.Prelude.{◌≤◌, length, IfOk};
 
 use crate::{Card, TypePlan, cards_of, plans_of};
 use doc_table::{DocKind, Path, Section, TableEnd};
+use ep_base::CARDS;
 use rf_field::CardPlan;
 use std::alloc::AllocGlobal;
 use std::process::Abort;
@@ -10,7 +11,7 @@ use std::test::Fail;
 
 /// What the key `cards` of this document says.
 fn cards_in(rt: &(impl Abort + AllocGlobal), document: &str) -> Result<Vec<Card>, TableEnd>
-    ensures { IfOk result (λ v. length v.items ≤ 4) }
+    ensures { IfOk result (λ v. length v.items ≤ CARDS) }
 {
     let table = toml::table_from_slice(rt.alloc(), document.as_bytes()).ok();
     let table = table.expect(rt, "a TOML document");

@@ -1,3 +1,4 @@
+pub mod Images
 pub mod Known
 pub mod Sizes
 pub mod Values

@@ -72,6 +72,12 @@ pub const ANSWERS: usize = 16;
 /// The most S(WTX) before a response of a card image.
 pub const ANSWER_WAITS: usize = 8;
 
+/// The most cards of a transaction.
+pub const CARDS: usize = 4;
+
+/// The most fates of a transaction.
+pub const FATES: usize = 4_096;
+
 /// The most scripts of a transaction.
 pub const SCRIPTS: usize = 4;
 
@@ -83,6 +89,9 @@ pub const TRANSACTIONS: usize = 64;
 
 /// The most lanes.
 pub const LANES: usize = 8;
+
+/// The most turns of a turn list.
+pub const TURNS: usize = 4_096;
 
 /// The bytes of a session's arena.
 pub const ARENA_BYTES: usize = 1_024;

@@ -1,5 +1,6 @@
 //! What several lanes hold.
 ghost use Rattle.std.specs.Prelude.{◌≡◌, ◌≤◌, ◌&&◌, vec_len};
+ghost use Rattle.ep_base.specs.declared.limits.TheConstants.{LANES};
 ghost use Rattle.entry_session.specs.Turns.{view_of, is_open};
 
 use crate::exchange::Exchange;
@@ -30,6 +31,6 @@ pub struct Lanes<K: Kernels> {
     // Whether the last turn made an exchange, and that one.
     pub(crate) told: bool,
     pub(crate) last: Exchange,
-    ghost few: { vec_len lanes ≤ 8 },
+    ghost few: { vec_len lanes ≤ LANES },
     ghost within: { taken ≤ vec_len lanes },
 }

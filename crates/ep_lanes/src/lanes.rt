@@ -13,7 +13,7 @@ ghost use Rattle.ep_lanes.specs.Turns.{Fails, Stands, Tells, Turns};
 use crate::exchange::{Exchange, Turned};
 use crate::holding::{Lane, Lanes};
 use crate::probe::Probe;
-use ep_base::NoMemory;
+use ep_base::{LANES, NoMemory};
 use kernel_port::{EventList, Kernels};
 use pre_processing::Prepared;
 use rf_frame::{Medium, RfFailed};
@@ -25,7 +25,7 @@ impl<K: Kernels + Drop> Lanes<K> {
     ///
     /// Errors: `NoMemory`.
     pub fn open(alloc: Global, count: u8, turns: Vec<u8>) -> Result<Lanes<K>, NoMemory>
-        requires { count ≤ 8 }
+        requires { count ≤ LANES }
         ensures { IfOk result (λ l. lanes_of K.state K.is_open K.is_fresh l ≡ new_lanes count turns.items) }
     {
         let mut lanes = Vec::new(alloc);

@@ -4,6 +4,7 @@ use Rattle.std.specs.Prelude.{All, IfOk, flat_map}
 use Rattle.std.proofs.lemmas.List.{length-replicate}
 use Rattle.std.proofs.lemmas.List.Elements.{All-nil, All-cons, All-head, All-tail}
 use Rattle.std.proofs.lemmas.Bool.Decides.{nat_tests}
+use Rattle.ep_base.specs.declared.limits.TheConstants.{FATES, ROUNDS}
 use Rattle.toml.specs.Data.{Items, as_array, as_str}
 use Rattle.ep_base.specs.Air.Fates.{Fate, AreFates}
 use Rattle.rf_field.specs.declared.fates.FateRun.{FateRun}
@@ -63,7 +64,7 @@ accepted_runs : Accepts runs (All IsSome)
 accepted_runs = record {
   is = λ path d exchanges e.
       after (of_kind path (as_array d)) _ exchanges e (λ elements _ e1.
-      after (counted 0 4096 path elements) _ exchanges e1 (λ few _ e2. (accepted_each run IsSome path 1 few exchanges accepted_run e2).0));
+      after (counted 0 FATES path elements) _ exchanges e1 (λ few _ e2. (accepted_each run IsSome path 1 few exchanges accepted_run e2).0));
 }
 
 accepted_elements : (place : Place) (elements : List (List Fate)) → defaulted [] runs (codes "fates") place ≡ Ok elements → All IsSome elements
@@ -122,9 +123,9 @@ accepted_lists cards = record {
   is = λ path d lists e.
       after (of_kind path (as_array d)) _ lists e (λ elements _ e1.
       after (of_kind path (if_number_lists elements)) _ lists e1 (λ arrays _ e2.
-      after (counted 0 64 path arrays) _ lists e2 (λ few is_few e3.
+      after (counted 0 ROUNDS path arrays) _ lists e2 (λ few is_few e3.
       let all = accepted_each (present cards) (IsRound cards) path 1 few lists (accepted_present cards) e3 in
-      let count = few_are 64 path arrays few is_few in
+      let count = few_are ROUNDS path arrays few is_few in
       record { few = omega (arith, all.1, count); short = short cards lists all.0; known = known cards lists all.0 })));
 }
 

@@ -1,5 +1,6 @@
 -- The key `fates` of a transaction (this project's own).
 use Rattle.std.specs.Prelude.{codes, pos, List, [], ◌∷◌, length, replicate, flat_map, Result, Ok, if◌then◌else◌}
+use Rattle.ep_base.specs.declared.limits.TheConstants.{FATES}
 use Rattle.toml.specs.Data.{as_array, as_str}
 use Rattle.ep_base.specs.Air.Fates.{Fate}
 use Rattle.rf_field.specs.Meaning.{clean_fate}
@@ -25,11 +26,11 @@ told_run path d = do
 abbrev pub run : Reader (List Fate)
 run path d = if is_of Integer d then clean_run path d else told_run path d
 
--- At most 4096 elements, each read wholly before the next (this project's own).
+-- At most `FATES` elements, each read wholly before the next (this project's own).
 abbrev pub runs : Reader (List (List Fate))
 runs path d = do
   elements ← of_kind path (as_array d)
-  few ← counted 0 4096 path elements
+  few ← counted 0 FATES path elements
   each run path 1 few
 
 -- The fates of a transaction's exchanges: those of each element, one after another, and none where the key is absent (this project's own).

@@ -1,6 +1,7 @@
 -- The key `presence` of a transaction (this project's own).
 use Rattle.std.specs.Prelude.{codes, ℕ, ◌≤◌, List, [], length, All, Bool, false, Some, None, Result, if◌then◌else◌}
 use Rattle.std.specs.declared.option.Option.{Option}
+use Rattle.ep_base.specs.declared.limits.TheConstants.{ROUNDS}
 use Rattle.toml.specs.Data.{Data, Items, as_array}
 use Rattle.doc_table.specs.Fault.{Fault}
 use Rattle.doc_table.specs.declared.list.ElementKind.TheVariants.{Integer}
@@ -28,7 +29,7 @@ abbrev pub presence : ℕ → Reader (List (List ℕ))
 presence cards path d = do
   elements ← of_kind path (as_array d)
   lists ← of_kind path (if_number_lists elements)
-  few ← counted 0 64 path lists
+  few ← counted 0 ROUNDS path lists
   each (present cards) path 1 few
 
 -- Which of so many cards are present in each round, no list where the key is absent (this project's own).
@@ -37,6 +38,6 @@ presence_at cards place = defaulted [] (presence cards) (codes "presence") place
 
 -- At most 64 lists, each of at most four numbers of these cards (this project's profile).
 pub record ArePresences (cards : ℕ) (lists : List (List ℕ)) : Type 0 where
-  pub few : length lists ≤ 64
+  pub few : length lists ≤ ROUNDS
   pub short : All (λ (list : List ℕ). length list ≤ 4) lists
   pub known : All (λ (list : List ℕ). All (λ n. (1 ≤ n) × (n ≤ cards)) list) lists

@@ -9,6 +9,7 @@ ghost use Rattle.fate_table.specs.Fates.{fates_at, run, told_run};
 
 use crate::tokens::fate_spelled;
 use doc_table::{DocFault, DocKind, Path, Read, Section, TableEnd, counted, each, integer_in};
+use ep_base::FATES;
 use rf_field::FateRun;
 use std::alloc::Global;
 use toml::Value;
@@ -50,7 +51,7 @@ impl Read for FateList {
         match value.as_array() {
             None => Err(TableEnd::Fault(path.fault(DocKind::WrongKind, 0))),
             Some(array) => {
-                let few = counted(path, array, 0, 4096)?;
+                let few = counted(path, array, 0, FATES)?;
                 each(alloc, path, few, &FateElement)
             }
         }

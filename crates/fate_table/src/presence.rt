@@ -10,7 +10,7 @@ use doc_table::{
     DocFault, DocKind, ElementKind, Path, Read, Section, TableEnd, all_of, counted, each,
     integer_in, items_of_kind,
 };
-use ep_base::Buf;
+use ep_base::{Buf, ROUNDS};
 use std::alloc::Global;
 use toml::Value;
 
@@ -56,7 +56,7 @@ impl Read for PresenceLists {
                 if !are_number_lists(array) {
                     return Err(TableEnd::Fault(path.fault(DocKind::WrongKind, 0)));
                 }
-                let few = counted(path, array, 0, 64)?;
+                let few = counted(path, array, 0, ROUNDS)?;
                 each(alloc, path, few, &PresentCards { cards: self.cards })
             }
         }

@@ -3,7 +3,7 @@ ghost use Rattle.std.specs.Prelude.{◌≡◌, ◌+◌, ◌<◌, ◌≤◌, List
 ghost use Rattle.rf_field.specs.Fields.{field_of};
 ghost use Rattle.lane_jobs.specs.Works.{new_work};
 
-use ep_base::NoMemory;
+use ep_base::{NoMemory, TRANSACTIONS};
 use rf_field::Field;
 use scenario::Job;
 use std::alloc::Global;
@@ -34,7 +34,7 @@ impl Model for LaneJobs {
 impl LaneJobs {
     /// A lane before its first transaction, with these transactions, at most 64. This takes no memory.
     pub fn of(jobs: Vec<Job>) -> LaneJobs
-        requires { length jobs.items ≤ 64 }
+        requires { length jobs.items ≤ TRANSACTIONS }
         ensures { result ≡ new_work jobs.items }
     {
         let mut left = jobs;
@@ -88,7 +88,7 @@ impl LaneJobs {
 ///
 /// Errors: `NoMemory`.
 pub fn works_of(alloc: Global, lanes: Vec<Vec<Job>>) -> Result<Vec<LaneJobs>, NoMemory>
-    requires { All (λ lane. length lane.items ≤ 64) lanes.items }
+    requires { All (λ lane. length lane.items ≤ TRANSACTIONS) lanes.items }
     ensures { IfOk result (λ v. v.items ≡ map (λ lane. new_work lane.items) lanes.items) }
 {
     let mut works = Vec::new(alloc);

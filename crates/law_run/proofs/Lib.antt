@@ -1,4 +1,3 @@
-pub mod Answering
 pub mod Bounding
 pub mod Hearing
 pub mod Legal

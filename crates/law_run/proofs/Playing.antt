@@ -15,7 +15,7 @@ use Rattle.ep_base.specs.Cards.Direct.{Direct, direct, direct_reply, presented_a
 use Rattle.ep_rules.specs.EntryPoint.Bounds.{AtMost, AtMostStarts}
 use Rattle.law_run.specs.OverPerfect.{channel_after, channel_asked, PerfectBy, OverPerfect}
 use Rattle.law_run.proofs.Hearing.{all_taken_more}
-use Rattle.law_run.proofs.Answering.{card_number}
+use Rattle.ep_base.proofs.Images.{card_number}
 
 abbrev direct_of : Activated → Image → List (ℕ × List ℕ) → ℕ → Direct
 direct_of card image log room = record { card = card; image = image; log = log; room = room }

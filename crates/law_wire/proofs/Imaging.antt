@@ -8,6 +8,7 @@ use Rattle.ep_base.specs.Link.Block.{Block, I, RAck, RNak, Deselect, Wtx, other,
 use Rattle.ep_base.specs.Link.Parts.{Cut, cut}
 use Rattle.ep_base.specs.Cards.CardAnswer.{Answered, App, Image, is_select, by_app, by_place, select_answer, ppse_answer, in_app, other_answer, card_answer}
 use Rattle.ep_base.specs.Link.CardEnd.{Card, Answer, Unsent, Parts, Waits, is_halted, sends_first, sends_part, sends, again, answers, executes, on_part, card_on_ack, card_on_wtx, mute, dropped, card_hears, records, unlogged}
+use Rattle.ep_base.proofs.Images.{card_number}
 use Rattle.ep_base.specs.Cards.Images.{unasked, last_answer}
 use Rattle.ep_base.specs.Cards.Direct.{image_rules}
 use Rattle.ep_base.specs.Link.Wire.{by_commands, image_after}
@@ -42,34 +43,9 @@ next_answered i xs x = sym (ap (λ (a : Answered × Image). a.0) (answered_appen
 
 -- ---- a card keeps its number
 
-app_number : (i : Image) (n : ℕ) (o : Option App) → (by_app i n o).1.number ≡ i.number
-app_number i n None = refl
-app_number i n (Some a) = refl
-
-place_number : (i : Image) (o : Option ℕ) → (by_place i o).1.number ≡ i.number
-place_number i None = refl
-place_number i (Some n) = app_number i n (slice_get i.apps n)
-
-in_app_number : (i : Image) (command : List ℕ) (n : ℕ) (o : Option App) → (in_app i command n o).1.number ≡ i.number
-in_app_number i command n None = refl
-in_app_number i command n (Some a) = refl
-
-other_number : (i : Image) (command : List ℕ) (o : Option ℕ) → (other_answer i command o).1.number ≡ i.number
-other_number i command None = refl
-other_number i command (Some n) = in_app_number i command n (slice_get i.apps n)
-
-by_tests : (i : Image) (command : List ℕ) (a b : Bool) → (if a then (if b then ppse_answer i else select_answer i (command_data command)) else other_answer i command i.selected).1.number ≡ i.number
-by_tests i command true true = refl
-by_tests i command true false = place_number i (position (λ (a : App). same_bytes a.name (command_data command)) i.apps)
-by_tests i command false b = other_number i command i.selected
-
-answer_number : (i : Image) (command : List ℕ) → (card_answer i command).1.number ≡ i.number
-unfolding card_answer
-answer_number i command = by_tests i command (is_select command) (same_bytes (command_data command) ppse_name)
-
 answered_number : (f : Activated → ℕ) (n : ℕ) (a : Answered × Image) (xs : List (List ℕ)) → (last_answer (image_rules f) n a xs).1.number ≡ a.1.number
 answered_number f n a [] = refl
-answered_number f n a (x ∷ xs) = answered_number f n (card_answer a.1 x) xs ∙ answer_number a.1 x
+answered_number f n a (x ∷ xs) = answered_number f n (card_answer a.1 x) xs ∙ card_number a.1 x
 
 pub number_after : (i : Image) (xs : List (List ℕ)) → (image_after i xs).number ≡ i.number
 number_after i xs = answered_number (λ card. i.number) i.number (unasked, i) xs

@@ -9,6 +9,7 @@ use Rattle.ep_base.specs.Air.Heard.{Activated}
 use Rattle.ep_base.specs.Cards.Apdu.{same_bytes, command_data, ppse_name, is_9000}
 use Rattle.ep_base.specs.Cards.CardAnswer.{Answered, Answers, Rule, App, Image, IsResponse, AreAnswers, IsRule, IsApp, IsImage, IsAnswer, used_once, file_not_found, is_select, app_answer, app_selected, by_app, by_place, select_answer, ppse_answer, rule_used, app_with, by_rule, by_rule_place, app_executes, with_app, in_app, other_answer, card_answer}
 use Rattle.ep_base.specs.Cards.Direct.{image_rules}
+use Rattle.ep_base.proofs.Images.{used_keeps, rule_keeps, app_keeps, with_rule_keeps}
 use Rattle.ep_base.proofs.Sizes.{command_short}
 use Rattle.ep_base.specs.Cards.Images.{Rules, unasked, last_answer, image_from}
 use Rattle.law_link.specs.Once as Links
@@ -56,46 +57,6 @@ next_within empty list used all some =
 next_or : (empty : List ℕ) (list : List (List ℕ)) (used : ℕ) → All IsResponse list → IsResponse empty → IsResponse (unwrap_or (slice_get list (min used (length list - 1))) empty)
 next_or empty [] used all e = subst (λ (o : Option (List ℕ)). IsResponse (unwrap_or o empty)) (sym (slice_get_past {X = List ℕ} [] (min used (0 - 1)) (omega arith))) e
 next_or empty (x ∷ xs) used all e = next_within empty (x ∷ xs) used all (omega arith)
-
-used_keeps : (a : Answers) → AreAnswers a → AreAnswers (used_once a)
-used_keeps a h = record { each = h.each; few = h.few; given = omega arith }
-
-rule_keeps : (r : Rule) → IsRule r → IsRule (rule_used r)
-rule_keeps r h = record {
-  prefix_least = h.prefix_least;
-  prefix_most = h.prefix_most;
-  answers = used_keeps r.responses h.answers;
-  some = h.some;
-  waits = h.waits;
-  wtxm_least = h.wtxm_least;
-  wtxm_most = h.wtxm_most;
-}
-
-app_keeps : (a : App) → IsApp a → IsApp (app_selected a)
-app_keeps a h = record {
-  name_least = h.name_least;
-  name_most = h.name_most;
-  answers = used_keeps a.selects h.answers;
-  some = h.some;
-  waits = h.waits;
-  wtxm_least = h.wtxm_least;
-  wtxm_most = h.wtxm_most;
-  each_rule = h.each_rule;
-  few_rules = h.few_rules;
-}
-
-with_rule_keeps : (a : App) (k : ℕ) (r : Rule) → IsApp a → IsRule r → IsApp (app_with a (slice_set a.rules k r))
-with_rule_keeps a k r h g = record {
-  name_least = h.name_least;
-  name_most = h.name_most;
-  answers = h.answers;
-  some = h.some;
-  waits = h.waits;
-  wtxm_least = h.wtxm_least;
-  wtxm_most = h.wtxm_most;
-  each_rule = All-set IsRule a.rules k r g h.each_rule;
-  few_rules = rw length-set h.few_rules;
-}
 
 cleared_keeps : (i : Image) → IsImage i → IsImage (record { number = i.number; ppse = i.ppse; apps = i.apps; selected = None })
 cleared_keeps i h = record { answers = h.answers; each_app = h.each_app; few_apps = h.few_apps; place = λ n e. cc }

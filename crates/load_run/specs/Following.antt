@@ -2,7 +2,7 @@
 use Rattle.std.specs.Prelude.{◌*◌, ◌≡◌, ℕ, ◌+◌, ◌≤◌, List, length, Option}
 use Rattle.ep_base.specs.declared.outcome.OutcomeKind.{OutcomeKind}
 use Rattle.ep_base.specs.Cards.Field.{Field}
-use Rattle.ep_base.specs.declared.limits.TheConstants.{PAIRS, TYPE_COMBINATIONS}
+use Rattle.ep_base.specs.declared.limits.TheConstants.{PAIRS, SCRIPTS, STEPS, TYPE_COMBINATIONS}
 use Rattle.ep_rules.specs.EntryPoint.Kernel.{Scripted, scripted}
 use Rattle.ep_rules.specs.EntryPoint.PreProcessing.{PreparedOne, prepared}
 use Rattle.ep_rules.specs.EntryPoint.Configuration.{Config}
@@ -26,7 +26,7 @@ all_in c = c.approved + c.declined + c.online + c.ended + c.link + c.nocard + c.
 pub record IsCountable (ones : List PreparedOne) (k : Scripted) (f : Field) : Type 0 where
   pub sends : ScriptedSends k
   pub restarts : scripted.restarts k ≤ 4
-  pub commands : scripted.commands k ≤ 64
+  pub commands : scripted.commands k ≤ SCRIPTS * STEPS
   pub combinations : length ones ≤ TYPE_COMBINATIONS
   pub room : f.room ≤ 5 * (1 + PAIRS) + 65
 

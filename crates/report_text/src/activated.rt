@@ -2,9 +2,10 @@
 ghost use Rattle.std.specs.Prelude.{◌≡◌, ◌≤◌, ◌<◌, ◌+◌, ◌++◌, length, codes, decimal};
 ghost use Rattle.ep_claim.specs.Text.ReportLine.{activate_text, hex, ttq_text};
 
-use crate::pieces::{push_hex, push_number, push_ttq};
+use crate::pieces::push_ttq;
 use ep_base::{LINE_BYTES, Line};
 use kernel_port::Activation;
+use trace_io::{push_hex, push_number};
 
 /// A kernel is activated.
 pub(crate) fn push_activation(activation: &Activation, out: &mut Line)

@@ -2,9 +2,10 @@
 ghost use Rattle.std.specs.Prelude.{◌≡◌, ◌≤◌, ◌<◌, ◌+◌, ◌++◌, ◌∷◌, [], length, codes, decimal, not, Some, None};
 ghost use Rattle.ep_claim.specs.Text.ReportLine.{card_word, hex, kind_word, message_row, truth, ttq_text};
 
-use crate::pieces::{push_hex, push_number, push_truth, push_ttq};
+use crate::pieces::{push_truth, push_ttq};
 use crate::words::{card_word, identifier, kind_word, message_words};
 use ep_base::{COMMAND, CardKind, LINE_BYTES, Line, Message, OutcomeKind, RESPONSE};
+use trace_io::{push_hex, push_number};
 
 /// A transaction starts.
 pub(crate) fn push_start(txn_type: u8, amount: u64, out: &mut Line)

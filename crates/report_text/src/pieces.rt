@@ -2,32 +2,8 @@
 ghost use Rattle.std.specs.Prelude.{◌≡◌, ◌≤◌, ◌+◌, ◌*◌, ◌++◌, length, codes, decimal};
 ghost use Rattle.ep_claim.specs.Text.ReportLine.{hex, prefix, truth, ttq_text};
 
-use ep_base::{COMMAND, LINE_BYTES, Line};
-use itoa::Buffer;
-
-/// A number in decimal digits.
-pub(crate) fn push_number(number: u64, out: &mut Line)
-    requires { length out.old.bytes + 20 ≤ LINE_BYTES }
-    ensures text { out.new.bytes ≡ out.old.bytes ++ decimal number }
-    ensures most { length out.new.bytes ≤ length out.old.bytes + 20 }
-{
-    let mut buffer = Buffer::new();
-    out.push_str(buffer.format(number));
-}
-
-/// Bytes as hexadecimal digits.
-#[tactic(auto, using(crate::proofs::HexText::hex_is_text))]
-pub(crate) fn push_hex(bytes: &[u8], out: &mut Line)
-    requires few { length bytes.now ≤ COMMAND }
-    requires room { length out.old.bytes + 2 * length bytes.now ≤ LINE_BYTES }
-    ensures text { out.new.bytes ≡ out.old.bytes ++ hex bytes.now }
-    ensures most { length out.new.bytes ≤ length out.old.bytes + 2 * length bytes.now }
-{
-    let mut digits = [0; 2 * COMMAND];
-    let room = &mut digits[..2 * bytes.len()];
-    hex::encode_to_slice(bytes, room).unwrap();
-    out.push_str(str::from_utf8(room).unwrap());
-}
+use ep_base::{LINE_BYTES, Line};
+use trace_io::{push_hex, push_number};
 
 /// A truth as 0 or 1.
 pub(crate) fn push_truth(value: bool, out: &mut Line)

@@ -2,10 +2,11 @@
 ghost use Rattle.std.specs.Prelude.{◌≡◌, ◌≤◌, ◌<◌, ◌+◌, ◌++◌, length, codes, decimal, not};
 ghost use Rattle.ep_claim.specs.Text.ReportLine.{hex, pre_text, truth};
 
-use crate::pieces::{push_hex, push_number, push_truth, push_ttq};
+use crate::pieces::{push_truth, push_ttq};
 use acquirer_config::Combination;
 use ep_base::{LINE_BYTES, Line};
 use pre_processing::{Indicators, PreparedOne};
+use trace_io::{push_hex, push_number};
 
 /// What was found of the Combination of this number.
 pub(crate) fn push_prepared(number: u8, one: &PreparedOne, out: &mut Line)

@@ -2,9 +2,10 @@
 ghost use Rattle.std.specs.Prelude.{◌≡◌, ◌≤◌, ◌<◌, ◌++◌, [], length, codes, decimal};
 ghost use Rattle.ep_claim.specs.Text.ReportLine.{hex, log_line};
 
-use crate::pieces::{push_hex, push_number, push_prefix};
+use crate::pieces::push_prefix;
 use card_image::Record;
 use ep_base::{COMMAND, LINE_BYTES, Line};
+use trace_io::{push_hex, push_number};
 
 /// Writes the line of a record of a log, with its newline: the numbers of lane and transaction, then the card's number
 /// and the command that it executed. `out` is empty, and every line fits.

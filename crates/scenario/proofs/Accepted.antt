@@ -3,6 +3,7 @@ use Rattle.std.proofs.Common.{◌≡◌, ℕ, ◌≤◌, List, [], length, codes
 use Rattle.std.specs.Prelude.{⊤}
 use Rattle.std.specs.Option.{ForSome}
 use Rattle.std.proofs.lemmas.List.Elements.{All-nil}
+use Rattle.ep_base.specs.declared.limits.TheConstants.{LANES, TRANSACTIONS, TURNS}
 use Rattle.toml.specs.Data.{Members}
 use Rattle.ep_claim.specs.Text.TraceLine.{TraceLine}
 use Rattle.doc_table.specs.declared.list.ElementKind.TheVariants as elements
@@ -45,10 +46,10 @@ transaction_is place t e =
 accepted_transaction : Accepts transaction IsLawful
 accepted_transaction = record { is = λ path d t e. after (table_of transaction_keys path d) _ t e (λ place _ is. transaction_is place t is) }
 
-accepted_transactions : Accepts (list_of elements.Table 1 64 transaction) IsLane
+accepted_transactions : Accepts (list_of elements.Table 1 TRANSACTIONS transaction) IsLane
 accepted_transactions = record {
   is = λ path d ts e.
-      let all = (accepted_list elements.Table 1 64 transaction IsLawful accepted_transaction).is path d ts e in
+      let all = (accepted_list elements.Table 1 TRANSACTIONS transaction IsLawful accepted_transaction).is path d ts e in
       record { some = all.least; short = all.most; lawful = all.each };
 }
 
@@ -58,8 +59,8 @@ accepted_lane = record {
 }
 
 -- The lanes, 1 to 8.
-pub accepted_lanes : (root : Place) (lanes : List (List Transaction)) → lanes_at root ≡ Ok lanes → IsListOf IsLane 1 8 lanes
-accepted_lanes root lanes e = accepted_required _ _ (codes "lanes") root lanes (accepted_list elements.Table 1 8 lane IsLane accepted_lane) e
+pub accepted_lanes : (root : Place) (lanes : List (List Transaction)) → lanes_at root ≡ Ok lanes → IsListOf IsLane 1 LANES lanes
+accepted_lanes root lanes e = accepted_required _ _ (codes "lanes") root lanes (accepted_list elements.Table 1 LANES lane IsLane accepted_lane) e
 
 -- A number of one of so many lanes.
 abbrev IsNumber : ℕ → ℕ → Type 0
@@ -67,8 +68,8 @@ IsNumber lanes n = (1 ≤ n) × (n ≤ lanes)
 
 accepted_turns : (lanes : ℕ) (root : Place) (turns : List ℕ) → turns_at lanes root ≡ Ok turns → AreTurns lanes turns
 accepted_turns lanes root turns e =
-    let none : IsListOf (IsNumber lanes) 0 4096 [] = record { each = All-nil (IsNumber lanes); least = omega arith; most = omega arith } in
-    let list = accepted_list elements.Integer 0 4096 (integer_in 1 lanes) (IsNumber lanes) (accepted_integer 1 lanes) in
+    let none : IsListOf (IsNumber lanes) 0 TURNS [] = record { each = All-nil (IsNumber lanes); least = omega arith; most = omega arith } in
+    let list = accepted_list elements.Integer 0 TURNS (integer_in 1 lanes) (IsNumber lanes) (accepted_integer 1 lanes) in
     let all = accepted_defaulted _ _ [] (codes "turns") root turns list none e in
     record { few = all.most; known = all.each }
 

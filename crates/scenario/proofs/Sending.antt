@@ -2,6 +2,7 @@
 use Rattle.std.proofs.Common.{◌≡◌, ◌≤◌, List, [], ◌∷◌, length, codes, true, Ok, subst, arith}
 use Rattle.std.specs.Prelude.{All}
 use Rattle.std.proofs.lemmas.List.Elements.{All-nil, All-head, All-tail}
+use Rattle.ep_base.specs.declared.limits.TheConstants.{SCRIPTS, STEPS}
 use Rattle.ep_base.specs.Cards.Apdu.{is_command}
 use Rattle.ep_rules.specs.EntryPoint.Kernel.{Step, Script, no_verdict}
 use Rattle.ep_rules.specs.EntryPoint.KernelCommands.{StepsSend, ScriptsSend}
@@ -31,23 +32,23 @@ accepted_step = record { is = λ path d s e. after (table_of step_keys path d) _
 
 -- At most 16 steps, which send commands.
 record IsRight (s : Script) : Type 0 where
-  short : length s.steps ≤ 16
+  short : length s.steps ≤ STEPS
   sends : All IsSending s.steps
 
 record AreSteps (steps : List Step) : Type 0 where
-  short : length steps ≤ 16
+  short : length steps ≤ STEPS
   sends : All IsSending steps
 
-accepted_steps : Accepts (list_of elements.Table 0 16 step) AreSteps
+accepted_steps : Accepts (list_of elements.Table 0 STEPS step) AreSteps
 accepted_steps = record {
-  is = λ path d xs e. let all = (accepted_list elements.Table 0 16 step IsSending accepted_step).is path d xs e in record { short = all.most; sends = all.each };
+  is = λ path d xs e. let all = (accepted_list elements.Table 0 STEPS step IsSending accepted_step).is path d xs e in record { short = all.most; sends = all.each };
 }
 
 script_is : (place : Place) (s : Script) → script_at place ≡ Ok s → IsRight s
 unfolding script_at
 script_is place s e =
     after (required (integer_in 1 16777215) (codes "kernel") place) _ s e (λ kernel _ e1.
-    after (defaulted [] (list_of elements.Table 0 16 step) (codes "steps") place) _ s e1 (λ steps is_steps e2.
+    after (defaulted [] (list_of elements.Table 0 STEPS step) (codes "steps") place) _ s e1 (λ steps is_steps e2.
     after (required outcome_text (codes "outcome") place) _ s e2 (λ verdict _ e3.
     let made : Script = record { kernel = kernel; steps = steps; verdict = verdict } in
     let same : made ≡ s = cc in
@@ -66,10 +67,10 @@ scripts_send : (scripts : List Script) → All IsRight scripts → ScriptsSend s
 scripts_send [] all = tt
 scripts_send (s ∷ scripts) all = (steps_send s.steps (All-head IsRight s scripts all).sends, scripts_send scripts (All-tail IsRight s scripts all))
 
-scripts_short : (scripts : List Script) → All IsRight scripts → All (λ (s : Script). length s.steps ≤ 16) scripts
+scripts_short : (scripts : List Script) → All IsRight scripts → All (λ (s : Script). length s.steps ≤ STEPS) scripts
 scripts_short scripts all k d lt = (all k d lt).short
 
-are_scripts : (scripts : List Script) → length scripts ≤ 4 → All IsRight scripts → AreScripts scripts
+are_scripts : (scripts : List Script) → length scripts ≤ SCRIPTS → All IsRight scripts → AreScripts scripts
 are_scripts scripts few all = record {
   few = few;
   short = scripts_short scripts all;
@@ -80,5 +81,5 @@ are_scripts scripts few all = record {
 pub accepted_scripts : (place : Place) (scripts : List Script) → scripts_at place ≡ Ok scripts → AreScripts scripts
 accepted_scripts place scripts e =
     accepted_defaulted _ AreScripts [] (codes "scripts") place scripts
-    (record { is = λ path d xs e. let all = (accepted_list elements.Table 0 4 script IsRight accepted_script).is path d xs e in are_scripts xs all.most all.each })
+    (record { is = λ path d xs e. let all = (accepted_list elements.Table 0 SCRIPTS script IsRight accepted_script).is path d xs e in are_scripts xs all.most all.each })
     (are_scripts [] (omega arith) (All-nil IsRight)) e

@@ -1,6 +1,7 @@
 -- What holds of a document that is accepted (this project's profile).
 use Rattle.std.specs.Prelude.{◌≤◌, All, List, length}
 use Rattle.std.specs.Option.{ForSome}
+use Rattle.ep_base.specs.declared.limits.TheConstants.{LANES, TRANSACTIONS}
 use Rattle.ep_base.specs.Air.Fates.{AreFates}
 use Rattle.ep_rules.specs.EntryPoint.Configuration.{IsConfig}
 use Rattle.ep_base.specs.Cards.Lawful.{ArePlaced, AreApart, names}
@@ -24,7 +25,7 @@ pub record IsLawful (t : Transaction) : Type 0 where
 -- A lane: 1 to 64 transactions (this project's profile).
 pub record IsLane (lane : List Transaction) : Type 0 where
   pub some : 1 ≤ length lane
-  pub short : length lane ≤ 64
+  pub short : length lane ≤ TRANSACTIONS
   pub lawful : All IsLawful lane
 
 -- A document: the limits of its configuration, 1 to 8 lanes, a frame size code of at most 8, at most 4096 turns, which are those of its lanes, and a
@@ -33,7 +34,7 @@ pub record IsAccepted (p : Plan) : Type 0 where
   pub config : IsConfig p.config
   pub fsdi : p.fsdi ≤ 8
   pub some : 1 ≤ length p.lanes
-  pub few : length p.lanes ≤ 8
+  pub few : length p.lanes ≤ LANES
   pub lanes : All IsLane p.lanes
   pub turns : AreTurns (length p.lanes) p.turns
   pub trace : ForSome p.trace (λ lines. length lines ≤ 65536)

@@ -1,6 +1,7 @@
 -- Transactions, lanes and the root of a document (this project's own).
 use Rattle.std.specs.Prelude.{codes, ℕ, List, [], ◌∷◌, length, Result, Ok}
 use Rattle.std.specs.declared.option.Option.{Option}
+use Rattle.ep_base.specs.declared.limits.TheConstants.{LANES, SCRIPTS, TRANSACTIONS}
 use Rattle.toml.specs.Data.{Members}
 use Rattle.ep_base.specs.Air.Fates.{Fate}
 use Rattle.ep_rules.specs.EntryPoint.Configuration.{Config}
@@ -42,7 +43,7 @@ transaction_keys = codes "type" ∷ codes "amount" ∷ codes "cards" ∷ codes "
 
 -- The scripts of a transaction's kernels (this project's own).
 abbrev pub scripts_at : Place → Result (List Script) Fault
-scripts_at place = defaulted [] (list_of elements.Table 0 4 script) (codes "scripts") place
+scripts_at place = defaulted [] (list_of elements.Table 0 SCRIPTS script) (codes "scripts") place
 
 -- What a transaction's table says (this project's own).
 unfoldable pub transaction_at : Place → Result Transaction Fault
@@ -69,11 +70,11 @@ lane_keys = codes "transactions" ∷ []
 abbrev pub lane : Reader (List Transaction)
 lane path d = do
   place ← table_of lane_keys path d
-  required (list_of elements.Table 1 64 transaction) (codes "transactions") place
+  required (list_of elements.Table 1 TRANSACTIONS transaction) (codes "transactions") place
 
 -- The lanes, 1 to 8 (this project's own).
 abbrev pub lanes_at : Place → Result (List (List Transaction)) Fault
-lanes_at root = required (list_of elements.Table 1 8 lane) (codes "lanes") root
+lanes_at root = required (list_of elements.Table 1 LANES lane) (codes "lanes") root
 
 -- The keys of the root, in the order in which they are checked (this project's own).
 abbrev pub root_keys : List (List ℕ)

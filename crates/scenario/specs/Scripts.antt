@@ -1,5 +1,6 @@
 -- Scripts of kernels, and their tables (this project's own).
 use Rattle.std.specs.Prelude.{codes, ℕ, ◌+◌, ◌*◌, ◌≤◌, List, [], ◌∷◌, length, slice_index, All, None, Result, Ok}
+use Rattle.ep_base.specs.declared.limits.TheConstants.{SCRIPTS, STEPS}
 use Rattle.ep_base.specs.Cards.Apdu.{is_command}
 use Rattle.ep_rules.specs.EntryPoint.Kernel.{Step, Script, no_verdict}
 use Rattle.ep_rules.specs.EntryPoint.KernelCommands.{ScriptedSends}
@@ -38,7 +39,7 @@ script_keys = codes "kernel" ∷ codes "steps" ∷ codes "outcome" ∷ []
 unfoldable pub script_at : Place → Result Script Fault
 script_at place = do
   kernel ← required (integer_in 1 16777215) (codes "kernel") place
-  steps ← defaulted [] (list_of elements.Table 0 16 step) (codes "steps") place
+  steps ← defaulted [] (list_of elements.Table 0 STEPS step) (codes "steps") place
   verdict ← required outcome_text (codes "outcome") place
   Ok (record { kernel = kernel; steps = steps; verdict = verdict })
 
@@ -50,6 +51,6 @@ script path d = do
 
 -- At most four scripts of at most 16 steps, all of whose commands have the form of one (this project's profile).
 pub record AreScripts (scripts : List Script) : Type 0 where
-  pub few : length scripts ≤ 4
-  pub short : All (λ (s : Script). length s.steps ≤ 16) scripts
+  pub few : length scripts ≤ SCRIPTS
+  pub short : All (λ (s : Script). length s.steps ≤ STEPS) scripts
   pub sends : ScriptedSends (record { scripts = scripts; running = None })

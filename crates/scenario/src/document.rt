@@ -9,6 +9,7 @@ use crate::transaction::{Transaction, TransactionTable};
 use crate::turns::turns_of;
 use acquirer_config::Config;
 use doc_table::{ListOf, Path, Read, Section, TableEnd};
+use ep_base::{LANES, TRANSACTIONS};
 use std::alloc::Global;
 use std::marker::Model;
 use toml::{Table, Value};
@@ -83,7 +84,7 @@ impl Read for LaneTable {
         value: &Value,
     ) -> Result<Vec<Transaction>, TableEnd> {
         let section = Section::of_value(path, value, &LANE_KEYS)?;
-        let tables = ListOf::tables(1, 64, TransactionTable);
+        let tables = ListOf::tables(1, TRANSACTIONS, TransactionTable);
         let transactions = section.required(alloc, "transactions", &tables)?;
         Ok(transactions)
     }
@@ -122,7 +123,7 @@ fn plan_at(alloc: Global, root: &Section) -> Result<Document, TableEnd>
 fn lanes_of(alloc: Global, root: &Section) -> Result<Vec<Vec<Transaction>>, TableEnd>
     requires { root.now.path.now ≡ [] }
     ensures value { GivesIfRoom (λ v. map (λ lane. lane.items) v.items) result (lanes_at (place root.now)) }
-    ensures few { IfOk result (λ v. length v.items ≤ 8) }
+    ensures few { IfOk result (λ v. length v.items ≤ LANES) }
 {
-    root.required(alloc, "lanes", &ListOf::tables(1, 8, LaneTable))
+    root.required(alloc, "lanes", &ListOf::tables(1, LANES, LaneTable))
 }

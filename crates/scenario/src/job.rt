@@ -9,7 +9,7 @@ ghost use Rattle.scenario.specs.Scripts.{AreScripts};
 use crate::transaction::Transaction;
 use acquirer_config::Config;
 use card_table::plans_of;
-use ep_base::{NAMED, NoMemory};
+use ep_base::{NAMED, NoMemory, SCRIPTS, STEPS};
 use kernel_port::{Script, Scripts};
 use rf_field::Field;
 use std::alloc::Global;
@@ -98,7 +98,7 @@ fn room_for(config: &Config, txn_type: u8, scripts: &[Script]) -> usize
 fn count_steps(scripts: &[Script]) -> usize
     requires { AreScripts scripts.now }
     ensures value { result ≡ steps_left scripts.now }
-    ensures few { result ≤ 64 }
+    ensures few { result ≤ SCRIPTS * STEPS }
 {
     let mut count = 0usize;
     let mut rest = scripts;

@@ -10,7 +10,7 @@ ghost use Rattle.scenario.specs.Scripts.{step_at, script_at};
 use crate::outcome::OutcomeText;
 use apdu::{Command, SUCCESS};
 use doc_table::{DocFault, DocKind, ListOf, Path, Read, Section, TableEnd, sized};
-use ep_base::COMMAND;
+use ep_base::{COMMAND, STEPS};
 use kernel_port::{Outcome, OutcomeKind, Script, Step};
 use std::alloc::Global;
 use toml::Value;
@@ -134,7 +134,7 @@ fn script_at(alloc: Global, section: &Section) -> Result<Script, TableEnd>
     ensures { GivesIfRoom (λ s. s) result (script_at (place section.now)) }
 {
     let kernel = section.required_integer("kernel", 1, 16_777_215)?;
-    let steps = ListOf::tables(0, 16, StepTable);
+    let steps = ListOf::tables(0, STEPS, StepTable);
     let steps = section.defaulted(alloc, "steps", &steps, Vec::new(alloc))?;
     let outcome = section.required(alloc, "outcome", &OutcomeText)?;
     Ok(Script {

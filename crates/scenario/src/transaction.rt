@@ -7,7 +7,7 @@ ghost use Rattle.scenario.specs.Plan.{transaction_at, scripts_at};
 use crate::script::ScriptTable;
 use card_table::{Card, cards_of};
 use doc_table::{ListOf, Path, Read, Section, TableEnd};
-use ep_base::Buf;
+use ep_base::{Buf, SCRIPTS};
 use fate_table::{fates_of, presence_of};
 use kernel_port::Script;
 use rf_field::FateRun;
@@ -104,6 +104,6 @@ fn scripts_of(alloc: Global, section: &Section) -> Result<Vec<Script>, TableEnd>
     requires { length section.now.path.now + 55 ≤ 96 }
     ensures { GivesIfRoom (λ v. v.items) result (scripts_at (place section.now)) }
 {
-    let tables = ListOf::tables(0, 4, ScriptTable);
+    let tables = ListOf::tables(0, SCRIPTS, ScriptTable);
     section.defaulted(alloc, "scripts", &tables, Vec::new(alloc))
 }

@@ -5,6 +5,7 @@ ghost use Rattle.doc_table.specs.Section.{place};
 ghost use Rattle.scenario.specs.Turns.{turns_at};
 
 use doc_table::{ElementKind, ListOf, Path, Read, Section, TableEnd, integer_in};
+use ep_base::{LANES, TURNS};
 use std::alloc::Global;
 use toml::Value;
 
@@ -14,13 +15,13 @@ use toml::Value;
 /// Errors: the first fault of the key, and `NoMemory`.
 pub(crate) fn turns_of(alloc: Global, section: &Section, lanes: usize) -> Result<Vec<u8>, TableEnd>
     requires room { length section.now.path.now + 13 ≤ 96 }
-    requires few { lanes ≤ 8 }
+    requires few { lanes ≤ LANES }
     ensures { GivesIfRoom (λ v. v.items) result (turns_at lanes (place section.now)) }
 {
     let numbers = ListOf {
         kind: ElementKind::Integer,
         least: 0,
-        most: 4096,
+        most: TURNS,
         of: LaneNumber { lanes: lanes as u8 },
     };
     section.defaulted(alloc, "turns", &numbers, Vec::new(alloc))

@@ -1,4 +1,5 @@
 use Rattle.std.proofs.Common.{◌≤◌, List, length}
+use Rattle.ep_base.specs.declared.limits.TheConstants.{CARDS}
 use Rattle.ep_base.specs.Cards.Lawful.{ArePlaced, AreApart, names}
 use Rattle.ep_base.specs.Cards.Numbers.{AreDistinct, numbers}
 use Rattle.doc_table.specs.Section.{place}
@@ -9,7 +10,7 @@ use Rattle.card_table.proofs.cards.cards_of.Goals as goal
 
 pub returns-clause-few : goal.returns-clause-few
 returns-clause-few c =
-    given_cards _ (place c.args.section.now) c.defaulted.result (λ (cards : List Card). length cards ≤ 4) (λ cards are. are.few) (rw c.new.ensures.items at c.defaulted.ensures)
+    given_cards _ (place c.args.section.now) c.defaulted.result (λ (cards : List Card). length cards ≤ CARDS) (λ cards are. are.few) (rw c.new.ensures.items at c.defaulted.ensures)
 
 pub returns-clause-placed : goal.returns-clause-placed
 returns-clause-placed c =

@@ -2,7 +2,7 @@ use Rattle.std.proofs.Common.{◌≡◌, ◌<◌, ◌∙◌, ◌==◌, length, s
 use Rattle.std.specs.Option.{ForSome}
 use Rattle.ep_base.specs.Cards.Apdu.{status_of, is_9000, same_bytes}
 use Rattle.ep_base.specs.Cards.CardAnswer.{Image, Answered, IsApp, select_answer}
-use Rattle.card_image.proofs.Limits.{app_keeps}
+use Rattle.ep_base.proofs.Images.{app_keeps}
 use Rattle.card_image.proofs.Selected.{with_app_keeps, selects_at, place_within, choice_of, chosen_within}
 use Rattle.card_image.proofs.image.CardImage.select_app.Goals as goal
 
