@@ -268,17 +268,9 @@ fn a_medium_fails(rt: HostRuntime) -> Result<(), Fail> {
     let mut lanes = two_lanes(&rt)?;
     let mut field = field(rt.alloc())?;
     let mut events = EventList::new();
-    assert_eq!(rt; lanes.next(), Some(1));
-    assert!(rt; is_open(&lanes, 1));
-    assert_eq!(rt;
-        lanes.turn(1, &mut field, &mut Open, &mut events),
-        Ok(Turned::Goes)
-    );
-    assert!(rt; lanes.last().is_some());
     let mut broken = Broken { faults: 0 };
     assert_eq!(rt; lanes.next(), Some(1));
     assert!(rt; is_open(&lanes, 1));
-    assert!(rt; events.is_empty());
     assert_eq!(rt;
         lanes.turn(1, &mut broken, &mut Open, &mut events),
         Err(RfFailed)
