@@ -1,5 +1,4 @@
 -- Lanes.
-pub mod ReplayText
 pub mod WholeReplay
 pub mod Apart
 pub mod Counting

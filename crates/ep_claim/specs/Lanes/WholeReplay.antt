@@ -1,96 +1,62 @@
--- Several lanes against the trace of an earlier run, exchange by exchange (this project's own).
-use Rattle.std.specs.Prelude.{◌≡◌, ℕ, ◌+◌, ◌==◌, Bool, if◌then◌else◌, List, [], ◌∷◌, ◌++◌, length, Option, Some, None, is_some}
+-- Several lanes against the trace of an earlier run: the run in which the k-th exchange hears what the k-th trace line says (this project's own).
+use Rattle.std.specs.Prelude.{◌≡◌, ℕ, false, List, [], length, map, Option, Some, None}
 use Rattle.ep_base.specs.Air.Heard.{Ask, Heard}
-use Rattle.ep_claim.specs.Lanes.Steps.{times}
-use Rattle.ep_claim.specs.Lanes.ReplayRun.{Mismatch, Replaying, at_lane, begun_replay, finishes, replay}
+use Rattle.ep_base.specs.Cards.Field.{Field, new_field}
 use Rattle.ep_rules.specs.EntryPoint.Talk.{Talk}
 use Rattle.ep_claim.specs.Text.TraceLine.{TraceLine}
-use Rattle.ep_claim.specs.Lanes.Order.{Order, next_turn, first_order}
-use Rattle.ep_claim.specs.Lanes.ReplayText.{Waiting, replay_opens, heard_piece}
+use Rattle.ep_claim.specs.Lanes.Exchanges.{or_silence}
+use Rattle.ep_claim.specs.Lanes.LaneText.{Job}
+use Rattle.ep_claim.specs.Lanes.Order.{Order, next_turn}
+use Rattle.ep_claim.specs.Lanes.ReplayRun.{Mismatch, Replaying, at_lane, begun_replay, finishes, replay}
+use Rattle.ep_claim.specs.Lanes.WholeRun.{ProbeSteps, Run, is_live, run_step, run_after}
 
--- The lanes that wait for an exchange, the order of the exchanges to come, the trace, and what was written (this project's own).
-pub record LaneReplay : Type 0 where
-  pub lanes : ℕ → Option Waiting
-  pub order : Order
-  pub trace : Replaying
-  pub text : List ℕ
+-- A field without cards: it answers nothing, and nothing is executed in it (this project's own).
+abbrev pub no_cards : Field
+no_cards = new_field [] [] [] 0
 
--- Whether a lane waits for an exchange (this project's own).
-abbrev pub is_waiting : LaneReplay → ℕ → Bool
-is_waiting r n = is_some (r.lanes n)
+-- A transaction without its cards (this project's own).
+abbrev pub without_cards : Talk → Job
+without_cards talk = record { talk = talk; field = no_cards }
 
--- The lanes with another one in place of lane n (this project's own).
-abbrev pub with_waiting : ℕ → Option Waiting → (ℕ → Option Waiting) → ℕ → Option Waiting
-with_waiting n waiting lanes k = if k == n then waiting else lanes k
+-- The transactions of all lanes without their cards (this project's own).
+abbrev pub cardless : List (List Talk) → List (List Job)
+cardless lanes = map (λ talks. map without_cards talks) lanes
 
 -- What a lane asks is compared with the trace's next line: what that line heard, where it is the same, and the trace after it (this project's own).
 abbrev pub compared_at : ℕ → Ask → Replaying → Option Heard × Replaying
-compared_at n ask s = replay.send (at_lane n s) ask.wave ask.bytes ask.wait
+compared_at lane ask s = replay.send (at_lane lane s) ask.wave ask.bytes ask.wait
 
--- Lane n goes on by what the line heard; where its frame isn't the line's, nothing is written, and the replay has failed (this project's own).
-abbrev pub replay_hears : ℕ → ℕ → Order → Waiting → Option Heard × Replaying → LaneReplay → LaneReplay
-replay_hears fsdi n order w (None, trace) r = record { lanes = r.lanes; order = r.order; trace = trace; text = r.text }
-replay_hears fsdi n order w (Some heard, trace) r = record {
-  lanes = with_waiting n (heard_piece fsdi n w heard).waiting r.lanes;
-  order = order;
-  trace = trace;
-  text = r.text ++ (heard_piece fsdi n w heard).text;
-}
+-- The trace as a probe: whatever the field answers, the reader hears what the next line heard; where that line isn't of this exchange, or there is
+-- none, the trace has failed (this project's own).
+abbrev pub trace_probe : ProbeSteps Replaying
+trace_probe = record { hear = λ s lane ask heard. ((compared_at lane ask s).1, or_silence (compared_at lane ask s).0) }
 
--- The turn of lane n (this project's own).
-abbrev pub replay_turn_of : ℕ → ℕ → Order → Option Waiting → LaneReplay → LaneReplay
-replay_turn_of fsdi n order None r = r
-replay_turn_of fsdi n order (Some w) r = replay_hears fsdi n order w (compared_at n w.asks r.trace) r
+-- The replay of so many lanes after its next exchange (this project's own).
+abbrev pub replay_next : (fsdi count : ℕ) → Run Replaying → Run Replaying
+replay_next fsdi count run = run_step false trace_probe fsdi count run
 
--- By whose turn it is, if it is anyone's (this project's own).
-abbrev pub replay_takes : ℕ → Option (ℕ × Order) → LaneReplay → LaneReplay
-replay_takes fsdi None r = r
-replay_takes fsdi (Some (n, order)) r = replay_turn_of fsdi n order (r.lanes n) r
+-- The replay of these trace lines after so many exchanges, if it has as many: a run without cards and without trace lines (this project's own).
+abbrev pub replay_after : ℕ → List ℕ → List TraceLine → List (List Talk) → ℕ → Run Replaying
+replay_after fsdi turns lines lanes n = run_after false trace_probe fsdi turns (begun_replay lines) (cardless lanes) n
 
 -- After a failure it is no one's turn (this project's own).
 abbrev pub turn_unless : Option Mismatch → Option (ℕ × Order) → Option (ℕ × Order)
 turn_unless None turn = turn
 turn_unless (Some failure) turn = None
 
--- Whose turn it is of so many lanes, as in a run, and the order after it (this project's own).
-abbrev pub turn_in : ℕ → LaneReplay → Option (ℕ × Order)
-turn_in count r = turn_unless r.trace.failure (next_turn (is_waiting r) count r.order)
+-- It goes no further: no lane has an exchange left, or the trace fails in the next one (this project's own).
+abbrev pub Stops : (fsdi count : ℕ) → Run Replaying → Type 0
+Stops fsdi count run = turn_unless (replay_next fsdi count run).probe.failure (next_turn (is_live run) count run.order) ≡ None
 
--- The replay of so many lanes after its next exchange; one that has stopped stays (this project's own).
-abbrev pub replay_step : (fsdi count : ℕ) → LaneReplay → LaneReplay
-replay_step fsdi count r = replay_takes fsdi (turn_in count r) r
+-- The mismatch at which it stops: that of the next exchange, or where there is none the first line that is left, if one is (this project's own).
+abbrev pub mismatch_after : (fsdi count : ℕ) → Run Replaying → Option Mismatch
+mismatch_after fsdi count run = (finishes (replay_next fsdi count run).probe).1.failure
 
--- It goes no further: it has failed, or no lane waits for an exchange (this project's own).
-abbrev pub HasStopped : ℕ → LaneReplay → Type 0
-HasStopped count r = turn_in count r ≡ None
-
--- The first mismatch of a replay that has stopped: the one at which it failed, or else the first line that is left, if one is (this project's own).
-abbrev pub first_mismatch : LaneReplay → Option Mismatch
-first_mismatch r = (finishes r.trace).1.failure
-
--- What is written as the lanes are opened in rising order, of which the first has this number (this project's own).
-abbrev pub replay_opening : (fsdi lane : ℕ) → List (List Talk) → List ℕ
-replay_opening fsdi lane [] = []
-replay_opening fsdi lane (talks ∷ rest) = (replay_opens fsdi lane 1 talks).text ++ replay_opening fsdi (lane + 1) rest
-
--- The lanes after that, of which the first has this number (this project's own).
-abbrev pub replay_lanes : (fsdi lane : ℕ) → List (List Talk) → ℕ → Option Waiting
-replay_lanes fsdi lane [] k = None
-replay_lanes fsdi lane (talks ∷ rest) k = if k == lane then (replay_opens fsdi lane 1 talks).waiting else replay_lanes fsdi (lane + 1) rest k
-
--- A replay of these trace lines whose lanes were just opened (this project's own).
-abbrev pub opened_replay : ℕ → List ℕ → List TraceLine → List (List Talk) → LaneReplay
-opened_replay fsdi turns lines lanes =
-    record { lanes = replay_lanes fsdi 1 lanes; order = first_order turns; trace = begun_replay lines; text = replay_opening fsdi 1 lanes }
-
--- The replay after so many exchanges, if it has as many (this project's own).
-abbrev pub replay_after : ℕ → List ℕ → List TraceLine → List (List Talk) → ℕ → LaneReplay
-replay_after fsdi turns lines lanes n = times (replay_step fsdi (length lanes)) n (opened_replay fsdi turns lines lanes)
-
--- A replay has stopped after some count of exchanges, and this is what was written then; it is matched where no mismatch is told, and else this is
--- the first one (this project's own).
+-- A replay stops after so many exchanges, each of which had its line, and what they wrote is its text; it is matched where no mismatch is told, and
+-- else this is the one at which it stops (this project's own).
 pub record ReplayEnds (fsdi : ℕ) (turns : List ℕ) (lines : List TraceLine) (lanes : List (List Talk)) (mismatch : Option Mismatch) (text : List ℕ) : Type 0 where
   pub exchanges : ℕ
-  pub stopped : HasStopped (length lanes) (replay_after fsdi turns lines lanes exchanges)
-  pub mismatch_is : mismatch ≡ first_mismatch (replay_after fsdi turns lines lanes exchanges)
+  pub matched : (replay_after fsdi turns lines lanes exchanges).probe.failure ≡ None
+  pub stopped : Stops fsdi (length lanes) (replay_after fsdi turns lines lanes exchanges)
+  pub mismatch_is : mismatch ≡ mismatch_after fsdi (length lanes) (replay_after fsdi turns lines lanes exchanges)
   pub text_is : text ≡ (replay_after fsdi turns lines lanes exchanges).text
