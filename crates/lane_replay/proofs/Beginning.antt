@@ -17,7 +17,7 @@ use Rattle.scenario.specs.Jobs.{talk_in}
 use Rattle.scenario.specs.Scenario.{Work}
 use Rattle.lane_jobs.specs.Works.{LaneWork}
 use Rattle.lane_jobs.proofs.Talks.{same_talk}
-use Rattle.ep_claim.specs.Lanes.ReplayText.{ReplayPiece, replay_opens, replay_opens_by}
+use Rattle.lane_replay.specs.Waiting.{ReplayPiece, replay_opens, replay_opens_by}
 use Rattle.lane_replay.specs.Shows.{IsOpened, ShowsLane, talks_of}
 use Rattle.lane_replay.specs.Turned.{BegunLane}
 

@@ -3,13 +3,14 @@ use Rattle.std.proofs.Common.{◌≡◌, ◌≢◌, ℕ, zero, suc, Bool, true, 
 use Rattle.std.specs.Prelude.{if◌then◌else◌}
 use Rattle.ep_base.specs.Air.Heard.{Ask, Heard}
 use Rattle.ep_claim.specs.Lanes.Steps.{times}
-use Rattle.ep_claim.specs.Lanes.ReplayRun.{Mismatch, Replaying, at_lane, compared, ends_unless, failing, left_over, next_line, same_shown, sends_unless, took}
+use Rattle.ep_claim.specs.Lanes.ReplayRun.{Mismatch, Replaying, at_lane, begun_replay, compared, ends_unless, failing, left_over, next_line, same_shown, sends_unless, took}
 use Rattle.ep_claim.specs.Text.TraceLine.{Shown, TraceLine}
 use Rattle.lane_jobs.proofs.Results.{some_same}
 use Rattle.lane_replay.specs.Stopping.{MismatchesDiffer}
-use Rattle.ep_claim.specs.Lanes.WholeReplay.{LaneReplay, compared_at, opened_replay, replay_after, replay_step}
+use Rattle.ep_claim.specs.Lanes.WholeReplay.{cardless, compared_at, replay_after, replay_next, trace_probe}
+use Rattle.ep_claim.specs.Lanes.WholeRun.{Run, opened_run, run_step}
+use Rattle.law_turns.proofs.Stepping.{by_step}
 use Rattle.lane_replay.proofs.Matching.{shown_self}
-use Rattle.lane_replay.proofs.Stepping.{by_step}
 
 -- a failure tells two things that differ
 abbrev Apart : Option Mismatch → Type 0
@@ -55,23 +56,24 @@ module _ (s : Replaying) (apart : Apart s.failure) where
   by_end None = by_left (next_line s)
   by_end (Some m) = apart
 
-answer_apart : (lane : ℕ) (ask : Ask) (s : Replaying) (a : Option Heard × Replaying) → compared_at lane ask s ≡ a → Apart s.failure → ApartAfter a
-answer_apart lane ask s a e apart =
-    subst (λ (x : Option Heard × Replaying). ApartAfter x) e
-    (by_failure (record { lane = lane; wave = ask.wave; frame = ask.bytes; wait = ask.wait }) (at_lane lane s) apart s.failure)
+answer_apart : (lane : ℕ) (ask : Ask) (s : Replaying) → Apart s.failure → ApartAfter (compared_at lane ask s)
+answer_apart lane ask s apart =
+    by_failure (record { lane = lane; wave = ask.wave; frame = ask.bytes; wait = ask.wait }) (at_lane lane s) apart s.failure
 
-step_apart : (fsdi count : ℕ) (r : LaneReplay) → Apart r.trace.failure → Apart (replay_step fsdi count r).trace.failure
-step_apart fsdi count r apart =
-    by_step fsdi count r (λ t q. Apart q.trace.failure) (λ none. apart)
-    (λ n o w t e d x. answer_apart n w.asks r.trace (None, t) x apart)
-    (λ n o w h t e d x. answer_apart n w.asks r.trace (Some h, t) x apart)
+module _ (fsdi count : ℕ) where
+  step_apart : (run : Run Replaying) → Apart run.probe.failure → Apart (run_step false trace_probe fsdi count run).probe.failure
+  step_apart run apart =
+      by_step false trace_probe fsdi count run (λ t q. Apart q.probe.failure) (λ none. apart) (λ n o x y. apart) (λ n o g x y z. apart)
+      (λ n o g ask x y z. answer_apart n ask run.probe apart)
 
-steps_apart : (fsdi count n : ℕ) (r : LaneReplay) → Apart r.trace.failure → Apart (times (replay_step fsdi count) n r).trace.failure
-steps_apart fsdi count zero r apart = apart
-steps_apart fsdi count (suc n) r apart = steps_apart fsdi count n (replay_step fsdi count r) (step_apart fsdi count r apart)
+  steps_apart : (n : ℕ) (run : Run Replaying) → Apart run.probe.failure → Apart (times (run_step false trace_probe fsdi count) n run).probe.failure
+  steps_apart zero run apart = apart
+  steps_apart (suc n) run apart = steps_apart n (run_step false trace_probe fsdi count run) (step_apart run apart)
 
 pub mismatches_differ_law : MismatchesDiffer
 mismatches_differ_law fsdi turns lines lanes m text ends =
+    let first = opened_run fsdi turns (begun_replay lines) (cardless lanes) in
     let last = replay_after fsdi turns lines lanes ends.exchanges in
-    let apart = steps_apart fsdi (length lanes) ends.exchanges (opened_replay fsdi turns lines lanes) tt in
-    subst (λ (f : Option Mismatch). Apart f) (sym ends.mismatch_is) (by_end last.trace apart last.trace.failure)
+    let apart = steps_apart fsdi (length (cardless lanes)) ends.exchanges first tt in
+    let next = replay_next fsdi (length lanes) last in
+    subst (λ (f : Option Mismatch). Apart f) (sym ends.mismatch_is) (by_end next.probe (step_apart fsdi (length lanes) last apart) next.probe.failure)

@@ -10,8 +10,9 @@ use Rattle.lane_jobs.proofs.Appending.{prefix_front, wrote_since}
 use Rattle.lane_replay.specs.Made.{EndCut, EndShown, TurnsCut, TurnsMade}
 use Rattle.lane_replay.specs.Replayed.{LanesOpened, Replayed, ReplayedPart}
 use Rattle.lane_replay.specs.Shows.{ReplayState, all_talks, talks_of}
-use Rattle.ep_claim.specs.Lanes.WholeReplay.{LaneReplay, first_mismatch, opened_replay, replay_opening, replay_after}
-use Rattle.lane_replay.proofs.Stopping.{replays_stop_law, texts_grow_law}
+use Rattle.lane_replay.specs.Machine.{first_mismatch, LaneReplay, machine_after, opened_replay, replay_opening}
+use Rattle.lane_replay.proofs.Growing.{machine_grows, machine_stops}
+use Rattle.lane_replay.proofs.Running.{machine_is}
 
 -- The end holds a failure exactly where it isn't well.
 abbrev EndIs : Bool × Replaying → Type 0
@@ -52,11 +53,12 @@ module _ (settings : Config) (fsdi : ℕ) (turns : List ℕ) (before opened : Re
   replay_whole after t b made ended mismatch is =
       let end : EndShown fsdi (length talks) before.written after run =
       subst (λ k. EndShown fsdi k before.written after run) count_is (made before.written run begun) in
-      let last = replay_after fsdi turns before.trace.lines talks end.exchanges in
+      let last = machine_after fsdi turns before.trace.lines talks end.exchanges in
       let first : first_mismatch last ≡ t.failure =
       ap (λ (s : Replaying). (finishes s).1.failure) (sym end.shows.trace) ∙ ap (λ (e : Bool × Replaying). e.1.failure) ended in (
         last.text,
-        record { exchanges = end.exchanges; stopped = end.stopped; mismatch_is = is ∙ sym first; text_is = refl },
+        (machine_is fsdi turns before.trace.lines talks mismatch last.text
+        (record { exchanges = end.exchanges; stopped = end.stopped; mismatch_is = is ∙ sym first; text_is = refl })).0,
         wrote_since before.written after.written last.text end.shows.text,
       )
 
@@ -65,8 +67,11 @@ module _ (settings : Config) (fsdi : ℕ) (turns : List ℕ) (before opened : Re
   replay_part written cut =
       let end : EndCut fsdi (length talks) before.written written run =
       subst (λ k. EndCut fsdi k before.written written run) count_is (cut before.written run begun) in
-      let last = replay_after fsdi turns before.trace.lines talks end.exchanges in
-      (first_mismatch last, last.text, record { exchanges = end.exchanges; stopped = end.stopped; mismatch_is = refl; text_is = refl }, end.part)
+      let last = machine_after fsdi turns before.trace.lines talks end.exchanges in
+      let ends =
+      machine_is fsdi turns before.trace.lines talks (first_mismatch last) last.text
+      (record { exchanges = end.exchanges; stopped = end.stopped; mismatch_is = refl; text_is = refl }) in
+      (first_mismatch last, last.text, ends.0, end.part)
 
 -- Where the lanes weren't all opened.
 pub replay_unopened : (settings : Config) (fsdi : ℕ) (turns : List ℕ) (before : ReplayState) (written : Option (List ℕ))
@@ -75,13 +80,13 @@ replay_unopened settings fsdi turns before written part =
     let lines = before.trace.lines in
     let talks = all_talks settings before.works in
     let many = length lines + 1 in
-    let grows = texts_grow_law fsdi turns lines talks 0 many in
-    let all : 0 + many ≡ many = omega arith in
-    let last = replay_after fsdi turns lines talks many in
-    let longer : last.text ≡ replay_opening fsdi 1 talks ++ grows.0 =
-    ap (λ k. (replay_after fsdi turns lines talks k).text) (sym all) ∙ grows.1 in (
+    let grows = machine_grows fsdi turns lines talks many in
+    let last = machine_after fsdi turns lines talks many in
+    let ends =
+    machine_is fsdi turns lines talks (first_mismatch last) last.text
+    (record { exchanges = many; stopped = machine_stops fsdi turns lines talks; mismatch_is = refl; text_is = refl }) in (
       first_mismatch last,
       last.text,
-      record { exchanges = many; stopped = replays_stop_law fsdi turns lines talks; mismatch_is = refl; text_is = refl },
-      subst (λ t. AppendsPrefix before.written written t) (sym longer) (prefix_front before.written written (replay_opening fsdi 1 talks) grows.0 part),
+      ends.0,
+      subst (λ t. AppendsPrefix before.written written t) (sym grows.1) (prefix_front before.written written (replay_opening fsdi 1 talks) grows.0 part),
     )

@@ -12,7 +12,7 @@ use Rattle.ep_lanes.specs.declared.exchange.Turned.{Turned}
 use Rattle.ep_lanes.specs.declared.exchange.Turned.TheVariants.{Goes, Ended}
 use Rattle.lane_jobs.specs.Works.{LaneWork}
 use Rattle.lane_jobs.proofs.Texts.{whole_nothing}
-use Rattle.ep_claim.specs.Lanes.ReplayText.{ReplayPiece, Waiting, replay_goes_on, replay_opens}
+use Rattle.lane_replay.specs.Waiting.{ReplayPiece, Waiting, replay_goes_on, replay_opens}
 use Rattle.lane_replay.specs.Shows.{ShowsLane, talks_of}
 use Rattle.lane_replay.specs.Turned.{GoesOn, GoesOnPart, IsAfter, Wrote}
 use Rattle.lane_replay.proofs.Beginning.{here}

@@ -19,7 +19,7 @@ use Rattle.ep_lanes.proofs.Standing.{asks_then}
 use Rattle.lane_jobs.specs.Works.{LaneWork}
 use Rattle.lane_jobs.proofs.Appending.{whole_next, part_next, part_front}
 use Rattle.lane_jobs.proofs.Results.{some_same}
-use Rattle.ep_claim.specs.Lanes.ReplayText.{ReplayPiece, Waiting, replay_goes_on, heard_piece}
+use Rattle.lane_replay.specs.Waiting.{ReplayPiece, Waiting, replay_goes_on, heard_piece}
 use Rattle.lane_replay.specs.Shows.{ShowsWaiting}
 use Rattle.lane_replay.specs.Turned.{HeardLine, HeardPart, IsAfter, LaneHeard, LaneDiffers, OtherLine, Wrote, lines_left}
 use Rattle.ep_claim.specs.Lanes.WholeReplay.{compared_at}

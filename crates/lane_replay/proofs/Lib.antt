@@ -3,10 +3,12 @@ pub mod Beginning
 pub mod Differing
 pub mod Finishing
 pub mod Going
+pub mod Growing
 pub mod Hearing
 pub mod Making
 pub mod Matching
 pub mod Opened
+pub mod Running
 pub mod Stepping
 pub mod Stopping
 pub mod Turns

@@ -11,9 +11,10 @@ use Rattle.lane_jobs.proofs.Appending.{prefix_front}
 use Rattle.lane_replay.specs.Made.{EndCut, EndShown, TurnsCut, TurnsMade}
 use Rattle.lane_replay.specs.Shows.{ReplayState, Shows}
 use Rattle.lane_replay.specs.Turned.{TurnCut, TurnTaken, lines_left}
-use Rattle.ep_claim.specs.Lanes.WholeReplay.{HasStopped, LaneReplay, replay_step, turn_unless}
-use Rattle.ep_claim.specs.Lanes.WholeReplay as replays
-use Rattle.lane_replay.proofs.Stopping.{stops_in, steps_grow}
+use Rattle.ep_claim.specs.Lanes.WholeReplay.{turn_unless}
+use Rattle.lane_replay.specs.Machine.{HasStopped, LaneReplay, replay_step}
+use Rattle.lane_replay.specs.Machine as replays
+use Rattle.lane_replay.proofs.Growing.{stops_in, steps_grow}
 use Rattle.lane_replay.proofs.Turns.{live_shown}
 
 none_next : (t : Option (ℕ × Order)) → lane_in t ≡ None → t ≡ None

@@ -25,11 +25,13 @@ use Rattle.ep_lanes.proofs.Ordering.{same_turn}
 use Rattle.scenario.specs.Jobs.{job_of, talk_in}
 use Rattle.scenario.specs.Scenario.{Work}
 use Rattle.lane_jobs.specs.Works.{all_jobs}
-use Rattle.ep_claim.specs.Lanes.ReplayText.{ReplayPiece, Waiting, heard_piece, replay_opens, replay_opens_by, replay_goes_on}
+use Rattle.lane_replay.specs.Waiting.{ReplayPiece, Waiting, heard_piece, replay_opens, replay_opens_by, replay_goes_on}
+use Rattle.lane_replay.proofs.Running.{machine_is}
 use Rattle.lane_replay.specs.OwnTrace.{OwnTraceMatches, SameTalks, line_at, line_by, line_in, lines_of, said_after, said_at, said_by, said_first, said_in, said_of, said_on, said_opening, talks_of_lanes}
 use Rattle.lane_replay.specs.Shows.{talks_of}
-use Rattle.ep_claim.specs.Lanes.WholeReplay.{LaneReplay, compared_at, replay_hears, opened_replay, replay_lanes, replay_opening, replay_after, replay_step, turn_in, turn_unless}
-use Rattle.ep_claim.specs.Lanes.WholeReplay as replays
+use Rattle.ep_claim.specs.Lanes.WholeReplay.{compared_at, turn_unless}
+use Rattle.lane_replay.specs.Machine.{LaneReplay, machine_after, opened_replay, replay_hears, replay_lanes, replay_opening, replay_step, turn_in}
+use Rattle.lane_replay.specs.Machine as replays
 
 -- ---- what is the same
 
@@ -272,19 +274,20 @@ own_trace_law traced fsdi turns lanes n over =
       said = all_said traced fsdi lanes 1;
     } in
     let size : length (talks_of_lanes lanes) ≡ count = length-map lanes talks in
-    let last = replay_after fsdi turns lines (talks_of_lanes lanes) n in
+    let last = machine_after fsdi turns lines (talks_of_lanes lanes) n in
     let end : Follows fsdi run last [] text =
     subst (λ k. Follows fsdi run (times (replay_step fsdi k) n first) [] text) (sym size)
     (steps_follow traced fsdi count n begun first [] (said_first fsdi 1 lanes) start) in
     let ended : next_turn (is_live run) (length (talks_of_lanes lanes)) run.order ≡ None =
     subst (λ k. next_turn (is_live run) k run.order ≡ None) (sym size) over in
     let done = well_ended last.trace end.well (none_at last.trace.lines last.trace.taken end.rest) in
-    record {
+    (machine_is fsdi turns lines (talks_of_lanes lanes) None text
+    (record {
       exchanges = n;
       stopped = turn_same traced fsdi (length (talks_of_lanes lanes)) run last [] text end ∙ ended;
       mismatch_is = sym (ap (λ (b : Bool × Replaying). b.1.failure) done ∙ end.well);
       text_is = sym end.said;
-    }
+    })).0
 
 -- ---- the lanes of a report
 

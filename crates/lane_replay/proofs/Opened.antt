@@ -15,10 +15,10 @@ use Rattle.lane_jobs.specs.Written.{with_text}
 use Rattle.lane_jobs.proofs.Numbering.{work_past, item_is, work_here, work_elsewhere}
 use Rattle.ep_lanes.proofs.Numbering.{new_at}
 use Rattle.lane_jobs.proofs.Places as place
-use Rattle.ep_claim.specs.Lanes.ReplayText.{replay_opens}
+use Rattle.lane_replay.specs.Waiting.{replay_opens}
 use Rattle.lane_replay.specs.Replayed.{IsFirst}
 use Rattle.lane_replay.specs.Shows.{Fits, IsOpened, Shows, ShowsLane, all_talks, talks_of}
-use Rattle.ep_claim.specs.Lanes.WholeReplay.{opened_replay, replay_lanes, replay_opening}
+use Rattle.lane_replay.specs.Machine.{opened_replay, replay_lanes, replay_opening}
 
 -- a lane shows what these transactions of it come to once they are opened
 abbrev pub ShowsBegun : Config → (fsdi lane : ℕ) → LaneHeld Scripted → (work todo : LaneWork) → Type 0

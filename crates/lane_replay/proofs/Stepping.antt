@@ -5,8 +5,9 @@ use Rattle.ep_claim.specs.Lanes.Steps.{times}
 use Rattle.ep_claim.specs.Lanes.ReplayRun.{Mismatch, Replaying}
 use Rattle.ep_claim.specs.Lanes.Order.{Order, next_turn}
 use Rattle.law_turns.proofs.Ordering.{Anyhow, anyhow}
-use Rattle.ep_claim.specs.Lanes.ReplayText.{Waiting}
-use Rattle.ep_claim.specs.Lanes.WholeReplay.{LaneReplay, HasStopped, compared_at, replay_hears, is_waiting, replay_step, replay_takes, turn_in, replay_turn_of, turn_unless}
+use Rattle.lane_replay.specs.Waiting.{Waiting}
+use Rattle.ep_claim.specs.Lanes.WholeReplay.{compared_at, turn_unless}
+use Rattle.lane_replay.specs.Machine.{HasStopped, is_waiting, LaneReplay, replay_hears, replay_step, replay_takes, replay_turn_of, turn_in}
 
 nobody : (t : ℕ × Order) (A : Type 0) → None ≡ Some t → A
 nobody t A e = absurd (let clash : ⊥ = cc in clash)

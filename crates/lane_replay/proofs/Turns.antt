@@ -14,11 +14,12 @@ use Rattle.ep_lanes.proofs.Ordering.{same_turn}
 use Rattle.lane_jobs.specs.Works.{LaneWork, work_of}
 use Rattle.lane_jobs.proofs.Appending.{with_more, wrote_since, prefix_more}
 use Rattle.ep_lanes.proofs.Ordering.{next_live}
-use Rattle.ep_claim.specs.Lanes.ReplayText.{ReplayPiece, Waiting, heard_piece}
+use Rattle.lane_replay.specs.Waiting.{ReplayPiece, Waiting, heard_piece}
 use Rattle.lane_replay.specs.Shows.{Fits, IsOpened, ReplayState, Shows, ShowsEnd, ShowsLane, ShowsWaiting}
 use Rattle.lane_replay.specs.Turned.{HeardPart, LaneCame, LaneCut, LaneDiffers, LaneHeard, LaneState, LaneTurned, Stepped, TurnCut, TurnTaken}
-use Rattle.ep_claim.specs.Lanes.WholeReplay.{HasStopped, LaneReplay, compared_at, replay_hears, replay_step, replay_takes, turn_in, replay_turn_of, turn_unless}
-use Rattle.ep_claim.specs.Lanes.WholeReplay as replays
+use Rattle.ep_claim.specs.Lanes.WholeReplay.{compared_at, turn_unless}
+use Rattle.lane_replay.specs.Machine.{HasStopped, LaneReplay, replay_hears, replay_step, replay_takes, replay_turn_of, turn_in}
+use Rattle.lane_replay.specs.Machine as replays
 use Rattle.lane_replay.proofs.Answering.{answer_of}
 use Rattle.lane_replay.proofs.Stepping.{failed_stopped}
 

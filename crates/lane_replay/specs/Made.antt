@@ -4,7 +4,7 @@ use Rattle.ep_rules.specs.EntryPoint.Configuration.{Config}
 use Rattle.ep_base.specs.Streams.Io.{AppendsPrefix}
 use Rattle.ep_claim.specs.Lanes.Steps.{times}
 use Rattle.lane_replay.specs.Shows.{ReplayState, Shows, ShowsEnd}
-use Rattle.ep_claim.specs.Lanes.WholeReplay.{HasStopped, LaneReplay, replay_step}
+use Rattle.lane_replay.specs.Machine.{HasStopped, LaneReplay, replay_step}
 
 -- What a replay of so many lanes comes to is shown: it has stopped (this project's own).
 pub record EndShown (fsdi count : ℕ) (start : Option (List ℕ)) (after : ReplayState) (r : LaneReplay) : Type 0 where

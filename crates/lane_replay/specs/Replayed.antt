@@ -6,7 +6,8 @@ use Rattle.ep_base.specs.Streams.Io.{AppendsPrefix}
 use Rattle.ep_claim.specs.Lanes.ReplayRun.{Mismatch}
 use Rattle.lane_jobs.specs.Works.{LaneWork}
 use Rattle.lane_replay.specs.Shows.{ReplayState, Shows, all_talks}
-use Rattle.ep_claim.specs.Lanes.WholeReplay.{ReplayEnds, opened_replay}
+use Rattle.ep_claim.specs.Lanes.WholeReplay.{ReplayEnds}
+use Rattle.lane_replay.specs.Machine.{opened_replay}
 
 -- A lane before its first transaction (this project's own).
 abbrev pub IsFirst : LaneWork → Type 0

@@ -10,8 +10,8 @@ use Rattle.ep_claim.specs.Lanes.Standing.{asked_by}
 use Rattle.scenario.specs.Jobs.{talk_in}
 use Rattle.lane_jobs.specs.Works.{LaneWork, work_of}
 use Rattle.lane_jobs.specs.Written.{with_text}
-use Rattle.ep_claim.specs.Lanes.ReplayText.{Waiting}
-use Rattle.ep_claim.specs.Lanes.WholeReplay.{LaneReplay}
+use Rattle.lane_replay.specs.Waiting.{Waiting}
+use Rattle.lane_replay.specs.Machine.{LaneReplay}
 
 -- What a lane's transactions to come say and ask (after EMV Contactless Book B).
 abbrev pub talks_of : Config → LaneWork → List Talk

@@ -18,9 +18,10 @@ use Rattle.ep_lanes.specs.declared.exchange.Turned.{Turned}
 use Rattle.scenario.specs.Jobs.{talk_in}
 use Rattle.scenario.specs.Scenario.{Work}
 use Rattle.lane_jobs.specs.Works.{LaneWork}
-use Rattle.ep_claim.specs.Lanes.ReplayText.{ReplayPiece, Waiting, replay_goes_on, heard_piece}
+use Rattle.lane_replay.specs.Waiting.{ReplayPiece, Waiting, replay_goes_on, heard_piece}
 use Rattle.lane_replay.specs.Shows.{ReplayState, Shows, ShowsEnd, ShowsLane, ShowsWaiting, talks_of}
-use Rattle.ep_claim.specs.Lanes.WholeReplay.{HasStopped, LaneReplay, compared_at, replay_step}
+use Rattle.ep_claim.specs.Lanes.WholeReplay.{compared_at}
+use Rattle.lane_replay.specs.Machine.{HasStopped, LaneReplay, replay_step}
 
 -- A transaction of a lane was begun: where something is asked the lane holds it open, and else the lane is without a transaction again (this
 -- project's own).

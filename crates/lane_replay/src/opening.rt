@@ -8,7 +8,7 @@ ghost use Rattle.ep_lanes.specs.Lanes.{count_of, has_open, is_live, lane_of};
 ghost use Rattle.ep_claim.specs.Lanes.Standing.{events_of, started};
 ghost use Rattle.ep_lanes.specs.Scripted.{held_of};
 ghost use Rattle.scenario.specs.Jobs.{talk_in};
-ghost use Rattle.ep_claim.specs.Lanes.ReplayText.{replay_opens};
+ghost use Rattle.lane_replay.specs.Waiting.{replay_opens};
 ghost use Rattle.lane_replay.specs.Shows.{IsOpened, ShowsLane, talks_of};
 ghost use Rattle.lane_replay.specs.Turned.{BegunLane};
 

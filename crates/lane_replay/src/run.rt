@@ -10,7 +10,7 @@ ghost use Rattle.lane_replay.specs.Ends.{Ended, IsSinkFault};
 ghost use Rattle.lane_replay.specs.Made.{TurnsCut, TurnsMade};
 ghost use Rattle.lane_replay.specs.Replayed.{IsFirst, LanesOpened, Replayed};
 ghost use Rattle.lane_replay.specs.Shows.{Fits, all_talks};
-ghost use Rattle.ep_claim.specs.Lanes.WholeReplay.{replay_opening};
+ghost use Rattle.lane_replay.specs.Machine.{replay_opening};
 
 use crate::ending::{ReplayEnd, copy_mismatch};
 use crate::opening::begin_next;

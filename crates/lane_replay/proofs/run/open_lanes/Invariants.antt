@@ -4,7 +4,7 @@ use Rattle.std.specs.Io.KnownBytes.{Appends}
 use Rattle.ep_base.specs.Streams.Io.{AppendsPrefix}
 use Rattle.ep_lanes.specs.Scripted.{held_of}
 use Rattle.lane_replay.specs.Shows.{all_talks}
-use Rattle.ep_claim.specs.Lanes.WholeReplay.{replay_opening}
+use Rattle.lane_replay.specs.Machine.{replay_opening}
 use Rattle.lane_replay.proofs.Opened.{Opening}
 use Rattle.lane_replay.proofs.run.open_lanes.Given as goal
 
