@@ -58,7 +58,7 @@ module _ (settings : Config) (fsdi : ℕ) (turns : List ℕ) (before opened : Re
       ap (λ (s : Replaying). (finishes s).1.failure) (sym end.shows.trace) ∙ ap (λ (e : Bool × Replaying). e.1.failure) ended in (
         last.text,
         (machine_is fsdi turns before.trace.lines talks mismatch last.text
-        (record { exchanges = end.exchanges; stopped = end.stopped; mismatch_is = is ∙ sym first; text_is = refl })).0,
+            (record { exchanges = end.exchanges; stopped = end.stopped; mismatch_is = is ∙ sym first; text_is = refl })).0,
         wrote_since before.written after.written last.text end.shows.text,
       )
 

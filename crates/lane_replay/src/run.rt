@@ -2,6 +2,7 @@
 ghost use Rattle.std.specs.Prelude.{◌≡◌, ◌≤◌, All, length, IfErr, OnOk, OnErr, IsErr, IsErrAnd, None, is_some};
 ghost use Rattle.ep_base.specs.Streams.Causes.{HasCause};
 ghost use Rattle.ep_base.specs.Streams.Io.{AppendsPrefix};
+ghost use Rattle.ep_base.specs.declared.limits.TheConstants.{LANES};
 ghost use Rattle.ep_claim.specs.Lanes.ReplayRun.{begun_replay};
 ghost use Rattle.ep_lanes.specs.Lanes.{new_lanes};
 ghost use Rattle.trace_io.specs.Replays.{replaying_of};
@@ -22,7 +23,7 @@ use lane_jobs::LaneJobs;
 use scenario::Scripts;
 use trace_io::Replay;
 
-/// Runs at most 8 lanes against the trace of an earlier run in place of cards: first the lanes are opened in rising order,
+/// Runs at most `LANES` lanes against the trace of an earlier run in place of cards: first the lanes are opened in rising order,
 /// and then each turn compares what one lane asks with the next trace line. The lane hears what the line says, and its
 /// events are written, without log lines and trace lines. The replay is matched where each exchange has its line and each
 /// line its exchange.
@@ -42,7 +43,7 @@ pub fn replay_lanes<K: Sink>(
 ) -> Result<(), ReplayEnd>
     requires code { fsdi ≤ 8 }
     requires new { held_of lanes.old ≡ new_lanes (length works.old) (held_of lanes.old).order.turns }
-    requires few { length works.old ≤ 8 }
+    requires few { length works.old ≤ LANES }
     requires works { All IsFirst works.old }
     requires begun { replaying_of replay.old ≡ begun_replay (replaying_of replay.old).lines }
     ensures ok { OnOk result (Replayed config.now fsdi (held_of lanes.old).order.turns
@@ -84,7 +85,7 @@ fn open_lanes<K: Sink>(
 ) -> Result<(), SinkFailed>
     requires code { fsdi ≤ 8 }
     requires new { held_of lanes.old ≡ new_lanes (length works.old) (held_of lanes.old).order.turns }
-    requires few { length works.old ≤ 8 }
+    requires few { length works.old ≤ LANES }
     requires works { All IsFirst works.old }
     requires begun { replaying_of replay.now ≡ begun_replay (replaying_of replay.now).lines }
     ensures ok { OnOk result (LanesOpened config.now fsdi (held_of lanes.old).order.turns

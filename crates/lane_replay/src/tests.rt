@@ -1,10 +1,11 @@
 //! Whole replays of a purchase with a card that has no directory: what no clause says is their text and their lines.
 ghost use Rattle.std.specs.Prelude.{◌≤◌, All, IfOk, length};
+ghost use Rattle.ep_base.specs.declared.limits.TheConstants.{LANES};
 ghost use Rattle.lane_replay.specs.Replayed.{IsFirst};
 
 use super::*;
 use acquirer_config::Config;
-use ep_base::{Line, MemorySink};
+use ep_base::{Line, MemorySink, TRANSACTIONS};
 use ep_lanes::Lanes;
 use lane_jobs::LaneJobs;
 use scenario::{Job, Scenario};
@@ -220,7 +221,7 @@ fn last_lane(lanes: &mut Vec<Vec<Job>>) -> Result<LaneJobs, Fail>
     ensures { IfOk result IsFirst }
 {
     let jobs = lanes.pop().ok_or("no lane")?;
-    if jobs.len() > 64 {
+    if jobs.len() > TRANSACTIONS {
         return Err(Fail::from("too many transactions"));
     }
     Ok(LaneJobs::of(jobs))
@@ -244,7 +245,7 @@ fn check_lanes(
     works: &mut [LaneJobs],
     case: &Case,
 ) -> Result<(), Fail>
-    requires few { length works.old ≤ 8 }
+    requires few { length works.old ≤ LANES }
     requires first { All IsFirst works.old }
 {
     let Ok(mut lanes) = Lanes::open(rt.alloc(), works.len() as u8, Vec::new(rt.alloc())) else {
