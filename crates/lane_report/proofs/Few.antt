@@ -3,6 +3,7 @@ use Rattle.std.proofs.Common.{◌≡◌, ℕ, ◌*◌, ◌≤◌, ◌==◌, List
 use Rattle.std.proofs.lemmas.List.{length-map}
 use Rattle.std.proofs.lemmas.List.Sums.{length-filter}
 use Rattle.std.proofs.lemmas.List.Elements.{All-head, All-tail, All-map, All-weaker}
+use Rattle.ep_base.specs.declared.limits.TheConstants.{LANES, STEPS, TRANSACTIONS}
 use Rattle.ep_rules.specs.EntryPoint.Configuration.{Combination, Config, count_of}
 use Rattle.ep_rules.specs.EntryPoint.Kernel.{Script, steps_left, running_left, running_count}
 use Rattle.ep_rules.specs.EntryPoint.PreProcessing.{prepared, prepared_one}
@@ -19,11 +20,11 @@ prepared_count settings txn_type amount =
     length-map (filter (λ (c : Combination). c.txn_type == txn_type) settings.list) (prepared_one settings.exponent amount)
     ∙ length-filter (λ (c : Combination). c.txn_type == txn_type) settings.list
 
-steps_few : (scripts : List Script) → All (λ (s : Script). length s.steps ≤ 16) scripts → steps_left scripts ≤ 16 * length scripts
+steps_few : (scripts : List Script) → All (λ (s : Script). length s.steps ≤ STEPS) scripts → steps_left scripts ≤ STEPS * length scripts
 steps_few [] few = omega arith
 steps_few (s ∷ scripts) few =
-    let first = All-head (λ (s : Script). length s.steps ≤ 16) s scripts few in
-    let rest = steps_few scripts (All-tail (λ (s : Script). length s.steps ≤ 16) s scripts few) in
+    let first = All-head (λ (s : Script). length s.steps ≤ STEPS) s scripts few in
+    let rest = steps_few scripts (All-tail (λ (s : Script). length s.steps ≤ STEPS) s scripts few) in
     omega (arith, first, rest)
 
 few_short : (settings : Config) (w : Work) → IsFew settings w → IsShort (talk_in settings w)
@@ -46,15 +47,15 @@ few_short settings w few =
 
 new_short : (settings : Config) (work : LaneWork) → IsNewWork settings work → IsShortLane (jobs_of settings work)
 new_short settings work new = record {
-  few = subst (λ n. n ≤ 64) (sym (length-map work.left (job_of settings))) new.short;
+  few = subst (λ n. n ≤ TRANSACTIONS) (sym (length-map work.left (job_of settings))) new.short;
   short =
       All-map (λ (j : Job). IsShort j.talk) (job_of settings) work.left
       (All-weaker (IsFew settings) (λ w. IsShort (talk_in settings w)) (few_short settings) work.left new.few);
 }
 
-pub all_short : (settings : Config) (works : List LaneWork) → length works ≤ 8 → All (IsNewWork settings) works → AreShort (all_jobs settings works)
+pub all_short : (settings : Config) (works : List LaneWork) → length works ≤ LANES → All (IsNewWork settings) works → AreShort (all_jobs settings works)
 all_short settings works few new = record {
-  few = subst (λ n. n ≤ 8) (sym (length-map works (jobs_of settings))) few;
+  few = subst (λ n. n ≤ LANES) (sym (length-map works (jobs_of settings))) few;
   short =
       All-map IsShortLane (jobs_of settings) works
       (All-weaker (IsNewWork settings) (λ work. IsShortLane (jobs_of settings work)) (new_short settings) works new);

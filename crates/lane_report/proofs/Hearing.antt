@@ -21,7 +21,7 @@ use Rattle.ep_lanes.specs.Turns.{Makes}
 use Rattle.ep_lanes.specs.declared.exchange.Turned.{Turned}
 use Rattle.ep_lanes.proofs.Standing.{asks_then}
 use Rattle.lane_report.specs.Shows.{ShowsGoing, Tells}
-use Rattle.lane_report.specs.Turned.{HeardTurn, IsAfter, TurnWrote, Wrote, heard_by, turn_piece}
+use Rattle.lane_report.specs.Turned.{HeardTurn, IsAfter, TurnPart, TurnStopped, TurnWrote, UnheardTurn, Wrote, heard_by, turn_piece}
 use Rattle.scenario.specs.Jobs.{job_of}
 use Rattle.lane_jobs.specs.Works.{LaneWork}
 use Rattle.lane_jobs.proofs.Appending.{whole_next, part_next, part_front}
@@ -133,12 +133,49 @@ module _ {P : Type 0} (answers : ProbeAnswers P) (settings : Config) (traced : B
   }
 
   pub turn_part : (a b w : Option (List ℕ)) → Appends a b front → AppendsPrefix b w more.text
-      → AppendsPrefix a w (turn_piece traced fsdi lane g ask (heard_by steps p lane g ask).1).text
-  turn_part a b w wrote rest =
-      subst (λ (h : Heard). AppendsPrefix a w (turn_piece traced fsdi lane g ask h).text) (sym heard_is)
-      (part_next a b front more.text _ whole_is wrote w rest)
+      → TurnPart traced steps fsdi lane (record { held = lane_of before lane; work = work; probe = p; written = a }) q w g ask
+  turn_part a b w wrote rest = record {
+    part =
+        subst (λ (h : Heard). AppendsPrefix a w (turn_piece traced fsdi lane g ask h).text) (sym heard_is)
+        (part_next a b front more.text _ whole_is wrote w rest);
+    probe = sym (ap (λ (r : P × Heard). r.0) heard_so);
+  }
 
   pub turn_front : (a w : Option (List ℕ)) → AppendsPrefix a w front
-      → AppendsPrefix a w (turn_piece traced fsdi lane g ask (heard_by steps p lane g ask).1).text
-  turn_front a w part =
-      subst (λ (h : Heard). AppendsPrefix a w (turn_piece traced fsdi lane g ask h).text) (sym heard_is) (part_front a w front more.text _ whole_is part)
+      → TurnPart traced steps fsdi lane (record { held = lane_of before lane; work = work; probe = p; written = a }) q w g ask
+  turn_front a w part = record {
+    part =
+        subst (λ (h : Heard). AppendsPrefix a w (turn_piece traced fsdi lane g ask h).text) (sym heard_is)
+        (part_front a w front more.text _ whole_is part);
+    probe = sym (ap (λ (r : P × Heard). r.0) heard_so);
+  }
+
+-- An exchange that had no answer.
+module _ {P : Type 0} (answers : ProbeAnswers P) (settings : Config) (fsdi lane : ℕ) (before : LaneHeld Scripted) (work : LaneWork) (p q : P)
+    (turn : (f : Field) → work.field ≡ Some f → UnheardTurn answers lane before f p q)
+    (steps : ProbeSteps P) (tells : Tells answers steps) (g : Going) (shows : ShowsGoing settings fsdi before work g)
+    (ask : Ask) (asked : asked_by fsdi g.lane.standing.doing ≡ Some ask) where
+  unheard : UnheardTurn answers lane before g.lane.field p q
+  unheard = turn g.lane.field shows.field
+
+  asks_so : unheard.transaction.asks ≡ ask
+  asks_so =
+      sym (some_same ask unheard.transaction.asks
+      (sym asked ∙ asks_then scripted g.talk fsdi g.lane.standing before unheard.transaction unheard.was shows.stands))
+
+  would_answer : field_answers ask g.lane.field ≡ (Some unheard.given, unheard.field_then)
+  would_answer =
+      answers_so ask g.lane.field unheard.field_then unheard.given
+      (subst (λ (x : Ask). Exchanges (told field) g.lane.field x (Some unheard.given) unheard.field_then) asks_so unheard.exchange)
+
+  pub turn_stopped : (after : LaneHeld Scripted) (next : LaneWork) (a b : Option (List ℕ)) → b ≡ a
+      → TurnStopped steps lane (record { held = before; work = work; probe = p; written = a })
+      (record { held = after; work = next; probe = q; written = b }) g ask
+  turn_stopped after next a b same = record {
+    wrote = same;
+    probe =
+        sym (ap (λ (r : P × Heard). r.0)
+        (subst (λ (h : Heard). steps.hear p lane ask h ≡ (q, unheard.heard)) (sym (ap (λ (x : Option Heard × Field). or_silence x.0) would_answer))
+        (subst (λ (x : Ask). steps.hear p lane x unheard.given ≡ (q, unheard.heard)) asks_so
+        (tells p lane unheard.transaction.asks unheard.given unheard.heard q unheard.hears))));
+  }

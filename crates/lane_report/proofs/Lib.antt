@@ -1,5 +1,6 @@
 pub mod Beginning
 pub mod Closing
+pub mod Ending
 pub mod Few
 pub mod Hearing
 pub mod Opened

@@ -17,7 +17,7 @@ use Rattle.ep_lanes.proofs.Numbering.{live_there}
 use Rattle.ep_lanes.proofs.Ordering.{next_live, same_turn}
 use Rattle.ep_lanes.proofs.Standing.{asks_then}
 use Rattle.lane_report.specs.Shows.{Fits, FitsLane, ReportState, Shows, ShowsGoing, ShowsLane}
-use Rattle.lane_report.specs.Turned.{LaneCut, LaneTurned, TurnCut, TurnTaken, TurnWrote, heard_by, turn_piece}
+use Rattle.lane_report.specs.Turned.{LaneCame, LaneCut, LaneStopped, LaneTurned, TurnCame, TurnCut, TurnPart, TurnStopped, TurnTaken, TurnUnanswered, TurnWrote, heard_by, turn_piece}
 use Rattle.lane_jobs.specs.Works.{LaneWork, work_of}
 use Rattle.lane_jobs.proofs.Appending.{with_more, wrote_since, prefix_more}
 
@@ -112,13 +112,29 @@ module _ {P : Type 0} (settings : Config) (traced : Bool) (fsdi lane : ℕ) (bef
       text = with_more start before.written after.written run.text piece.text shows.text by_run.wrote.text told;
     }
 
+  -- what a lane's turn that wrote nothing leaves
+  pub left_after : (after : ReportState P) (held : LaneHeld Scripted) (work : LaneWork) (g : Going) (ask : Ask)
+      → TurnStopped steps lane
+      (record { held = lane_of before.lanes lane; work = work_of before.works lane; probe = before.probe; written = before.written })
+      (record { held = held; work = work; probe = after.probe; written = after.written }) g ask
+      → (after.written ≡ before.written) × (after.probe ≡ (makes_exchange traced steps fsdi lane order g (Some ask) run).probe)
+  left_after after held work g ask stopped =
+      (stopped.wrote, subst (λ p. after.probe ≡ (heard_by steps p lane g ask).0) shows.probe stopped.probe)
+
+  pub turn_is : is_some (next_turn (runs.is_live run) (length before.works) run.order) ≡ true
+  turn_is = ap is_some run_turn
+
   -- a first part of its piece
-  pub part_after : (g : Going) (ask : Ask) (written : Option (List ℕ))
-      → AppendsPrefix before.written written (turn_piece traced fsdi lane g ask (heard_by steps before.probe lane g ask).1).text
+  pub part_after : (g : Going) (ask : Ask) (q : P) (written : Option (List ℕ))
+      → TurnPart traced steps fsdi lane
+      (record { held = lane_of before.lanes lane; work = work_of before.works lane; probe = before.probe; written = before.written }) q written g ask
       → AppendsPrefix start written (makes_exchange traced steps fsdi lane order g (Some ask) run).text
-  part_after g ask written part =
-      prefix_more start before.written written run.text _ (wrote_since start before.written run.text shows.text)
-      (subst (λ p. AppendsPrefix before.written written (turn_piece traced fsdi lane g ask (heard_by steps p lane g ask).1).text) shows.probe part)
+      × (q ≡ (makes_exchange traced steps fsdi lane order g (Some ask) run).probe)
+  part_after g ask q written part = (
+    prefix_more start before.written written run.text _ (wrote_since start before.written run.text shows.text)
+        (subst (λ p. AppendsPrefix before.written written (turn_piece traced fsdi lane g ask (heard_by steps p lane g ask).1).text) shows.probe part.part),
+    subst (λ p. q ≡ (heard_by steps p lane g ask).0) shows.probe part.probe,
+  )
 
 module _ {P : Type 0} (answers : ProbeAnswers P) (settings : Config) (traced : Bool) (fsdi lane : ℕ) (before : ReportState P) (order : Order)
     (turn : next_of before.lanes ≡ Some (lane, order)) (next : next_lane before.lanes ≡ Some lane) (fits : Fits before.lanes before.works)
@@ -149,16 +165,59 @@ module _ {P : Type 0} (answers : ProbeAnswers P) (settings : Config) (traced : B
       (law steps tells g (subst (λ (w : LaneWork). ShowsGoing settings fsdi (lane_of before.lanes lane) w g) (sym work_is) shown) ask asked)))
       order_is others other_works told)
 
-  pub turn_cut : (written : Option (List ℕ))
-      → LaneCut answers settings traced fsdi lane
-      (record { held = lane_of before.lanes lane; work = work; probe = before.probe; written = before.written }) written
-      → TurnCut answers settings traced fsdi before written
-  turn_cut written law = λ steps tells start run shows.
+  -- its exchange had no answer
+  pub turn_unanswered : (after : ReportState P) (held_then : LaneHeld Scripted) (work_then : LaneWork)
+      → LaneStopped answers settings fsdi lane
+      (record { held = lane_of before.lanes lane; work = work; probe = before.probe; written = before.written })
+      (record { held = held_then; work = work_then; probe = after.probe; written = after.written })
+      → TurnUnanswered answers settings traced fsdi before after
+  turn_unanswered after held_then work_then law = λ steps tells start run shows.
+      let left : (after.written ≡ before.written) × (after.probe ≡ (run_step traced steps fsdi (length before.works) run).probe) =
       of_turn settings traced fsdi lane before order turn fits.count (next_live before.lanes lane next) steps start run shows
-      (λ r. AppendsPrefix start written r.text)
+      (λ r. (after.written ≡ before.written) × (after.probe ≡ r.probe))
       (λ g shown ask asked.
-      part_after settings traced fsdi lane before order turn fits.count (next_live before.lanes lane next) steps start run shows g ask written
-      (law steps tells g (subst (λ (w : LaneWork). ShowsGoing settings fsdi (lane_of before.lanes lane) w g) (sym work_is) shown) ask asked))
+      left_after settings traced fsdi lane before order turn fits.count (next_live before.lanes lane next) steps start run shows after held_then work_then g ask
+      (subst (λ (w : LaneWork). TurnStopped steps lane
+      (record { held = lane_of before.lanes lane; work = w; probe = before.probe; written = before.written })
+      (record { held = held_then; work = work_then; probe = after.probe; written = after.written }) g ask)
+      work_is
+      (law steps tells g (subst (λ (w : LaneWork). ShowsGoing settings fsdi (lane_of before.lanes lane) w g) (sym work_is) shown) ask asked))) in
+      record {
+        turn = turn_is settings traced fsdi lane before order turn fits.count (next_live before.lanes lane next) steps start run shows;
+        wrote = left.0;
+        probe = left.1;
+      }
+
+  -- the one or the other
+  pub turn_came : (made : Bool) (after : ReportState P) (work_then : LaneWork) → work_of after.works lane ≡ work_then
+      → after.lanes.order ≡ order
+      → ((k : ℕ) → k ≢ lane → lane_of after.lanes k ≡ lane_of before.lanes k)
+      → ((k : ℕ) → k ≢ lane → work_of after.works k ≡ work_of before.works k)
+      → is_some after.written ≡ is_some before.written
+      → LaneCame answers settings traced fsdi lane
+      (record { held = lane_of before.lanes lane; work = work; probe = before.probe; written = before.written })
+      (record { held = lane_of after.lanes lane; work = work_then; probe = after.probe; written = after.written }) made
+      → TurnCame answers settings traced fsdi before after made
+  turn_came true after work_then then_is order_is others other_works told law =
+      turn_taken after work_then then_is order_is others other_works told law
+  turn_came false after work_then then_is order_is others other_works told law = turn_unanswered after (lane_of after.lanes lane) work_then law
+
+  pub turn_cut : (q : P) (written : Option (List ℕ))
+      → LaneCut answers settings traced fsdi lane
+      (record { held = lane_of before.lanes lane; work = work; probe = before.probe; written = before.written }) q written
+      → TurnCut answers settings traced fsdi before q written
+  turn_cut q written law = λ steps tells start run shows.
+      let cut : AppendsPrefix start written (run_step traced steps fsdi (length before.works) run).text
+      × (q ≡ (run_step traced steps fsdi (length before.works) run).probe) =
+      of_turn settings traced fsdi lane before order turn fits.count (next_live before.lanes lane next) steps start run shows
+      (λ r. AppendsPrefix start written r.text × (q ≡ r.probe))
+      (λ g shown ask asked.
+      part_after settings traced fsdi lane before order turn fits.count (next_live before.lanes lane next) steps start run shows g ask q written
+      (subst (λ (w : LaneWork). TurnPart traced steps fsdi lane
+      (record { held = lane_of before.lanes lane; work = w; probe = before.probe; written = before.written }) q written g ask)
+      work_is
+      (law steps tells g (subst (λ (w : LaneWork). ShowsGoing settings fsdi (lane_of before.lanes lane) w g) (sym work_is) shown) ask asked))) in
+      record { part = cut.0; probe = cut.1 }
 
 -- The lanes fit what they have to do, where those of one lane changed.
 pub fits_after : (before after : Held Scripted) (works works_then : List LaneWork) (lane : ℕ) (work : LaneWork) → Fits before works

@@ -1,4 +1,5 @@
 pub mod Begun
+pub mod Ends
 pub mod Made
 pub mod Reports
 pub mod Shows

@@ -1,18 +1,19 @@
 -- What a turn of a lane comes to (this project's own).
-use Rattle.std.specs.Prelude.{◌≡◌, ℕ, Bool, List, length, Option, Some}
+use Rattle.std.specs.Prelude.{◌≡◌, ℕ, Bool, true, false, List, length, Option, Some, is_some}
 use Rattle.std.specs.Io.KnownBytes.{Appends}
 use Rattle.ep_rules.specs.EntryPoint.Configuration.{Config}
 use Rattle.ep_base.specs.Cards.Field.{Field, field}
 use Rattle.ep_base.specs.Air.Heard.{Ask, Heard}
 use Rattle.ep_base.specs.Streams.Io.{AppendsPrefix}
 use Rattle.ep_rules.specs.EntryPoint.Kernel.{Scripted, scripted}
-use Rattle.ep_base.specs.Air.Medium.{told}
+use Rattle.ep_base.specs.Air.Medium.{told, Exchanges}
 use Rattle.ep_rules.specs.EntryPoint.Event.{Event as EventData}
 use Rattle.ep_claim.specs.Lanes.Exchanges.{Lane, field_answers, or_silence}
 use Rattle.ep_claim.specs.Lanes.Standing.{asked_by}
 use Rattle.ep_claim.specs.Lanes.LaneText.{Going, Piece, after_text, goes_on, heard_lane, piece_of, trace_part}
-use Rattle.ep_claim.specs.Lanes.WholeRun.{ProbeSteps, Run, run_step}
-use Rattle.ep_lanes.specs.Lanes.{Held, LaneHeld}
+use Rattle.ep_claim.specs.Lanes.Order.{next_turn}
+use Rattle.ep_claim.specs.Lanes.WholeRun.{ProbeSteps, Run, is_live, run_step}
+use Rattle.ep_lanes.specs.Lanes.{Held, LaneHeld, OpenTransaction}
 use Rattle.ep_lanes.specs.Probing.{ProbeAnswers}
 use Rattle.ep_lanes.specs.Turns as turns
 use Rattle.ep_lanes.specs.declared.exchange.Turned.{Turned}
@@ -25,6 +26,16 @@ pub record HeardTurn {P : Type 0} (answers : ProbeAnswers P) (lane : ℕ) (befor
   pub field_then : Field
   pub left_is : left ≡ Some field_then
   pub turns : turns.Turns scripted (told field) answers lane before f p turned said after field_then q
+
+-- What a lane asked had no answer: who answers came to this state, by what the field would have given (this project's own).
+pub record UnheardTurn {P : Type 0} (answers : ProbeAnswers P) (lane : ℕ) (before : LaneHeld Scripted) (f : Field) (p q : P) : Type 0 where
+  pub transaction : OpenTransaction Scripted
+  pub was : before.transaction ≡ Some transaction
+  pub given : Heard
+  pub field_then : Field
+  pub exchange : Exchanges (told field) f transaction.asks (Some given) field_then
+  pub heard : Heard
+  pub hears : answers.hears p lane transaction.asks given heard q
 
 -- A lane after an exchange of the transaction that goes on so: it stands where the transaction stands, over the field that was left so, and says
 -- what follows (this project's own).
@@ -84,12 +95,33 @@ LaneTurned {P} answers settings traced fsdi lane before after =
     (steps : ProbeSteps P) → Tells answers steps → (g : Going) → ShowsGoing settings fsdi before.held before.work g →
     (ask : Ask) → asked_by fsdi g.lane.standing.doing ≡ Some ask → TurnWrote settings traced steps fsdi lane before after g ask
 
--- A first part of that piece was written (this project's own).
-abbrev pub LaneCut : {P : Type 0} → ProbeAnswers P → Config → Bool → (fsdi lane : ℕ) → (before : LaneState P) → Option (List ℕ) → Type 0
-LaneCut {P} answers settings traced fsdi lane before written =
+-- A lane's exchange had no answer: nothing was written, and who answers went on (this project's own).
+pub record TurnStopped {P : Type 0} (steps : ProbeSteps P) (lane : ℕ) (before after : LaneState P) (g : Going) (ask : Ask) : Type 0 where
+  pub wrote : after.written ≡ before.written
+  pub probe : after.probe ≡ (heard_by steps before.probe lane g ask).0
+
+-- So it is for whatever the lane showed (this project's own).
+abbrev pub LaneStopped : {P : Type 0} → ProbeAnswers P → Config → (fsdi lane : ℕ) → (before after : LaneState P) → Type 0
+LaneStopped {P} answers settings fsdi lane before after =
     (steps : ProbeSteps P) → Tells answers steps → (g : Going) → ShowsGoing settings fsdi before.held before.work g →
-    (ask : Ask) → asked_by fsdi g.lane.standing.doing ≡ Some ask →
-    AppendsPrefix before.written written (turn_piece traced fsdi lane g ask (heard_by steps before.probe lane g ask).1).text
+    (ask : Ask) → asked_by fsdi g.lane.standing.doing ≡ Some ask → TurnStopped steps lane before after g ask
+
+-- The one or the other, by whether the exchange was made (this project's own).
+abbrev pub LaneCame : {P : Type 0} → ProbeAnswers P → Config → Bool → (fsdi lane : ℕ) → (before after : LaneState P) → (made : Bool) → Type 0
+LaneCame answers settings traced fsdi lane before after true = LaneTurned answers settings traced fsdi lane before after
+LaneCame answers settings traced fsdi lane before after false = LaneStopped answers settings fsdi lane before after
+
+-- A lane wrote a first part of the piece of its turn, and the probe went on (this project's own).
+pub record TurnPart {P : Type 0} (traced : Bool) (steps : ProbeSteps P) (fsdi lane : ℕ) (before : LaneState P) (q : P) (written : Option (List ℕ))
+    (g : Going) (ask : Ask) : Type 0 where
+  pub part : AppendsPrefix before.written written (turn_piece traced fsdi lane g ask (heard_by steps before.probe lane g ask).1).text
+  pub probe : q ≡ (heard_by steps before.probe lane g ask).0
+
+-- So it is for whatever the lane showed (this project's own).
+abbrev pub LaneCut : {P : Type 0} → ProbeAnswers P → Config → Bool → (fsdi lane : ℕ) → (before : LaneState P) → (q : P) → Option (List ℕ) → Type 0
+LaneCut {P} answers settings traced fsdi lane before q written =
+    (steps : ProbeSteps P) → Tells answers steps → (g : Going) → ShowsGoing settings fsdi before.held before.work g →
+    (ask : Ask) → asked_by fsdi g.lane.standing.doing ≡ Some ask → TurnPart traced steps fsdi lane before q written g ask
 
 -- A turn was taken: where the probe has these steps, what showed a run shows it after its next exchange (this project's own).
 abbrev pub TurnTaken : {P : Type 0} → ProbeAnswers P → Config → Bool → ℕ → (before after : ReportState P) → Type 0
@@ -97,8 +129,30 @@ TurnTaken {P} answers settings traced fsdi before after =
     (steps : ProbeSteps P) → Tells answers steps → (start : Option (List ℕ)) (run : Run P) → Shows settings fsdi start before run →
     Shows settings fsdi start after (run_step traced steps fsdi (length before.works) run)
 
--- A turn was cut short: a first part of the run's text after its next exchange was written (this project's own).
-abbrev pub TurnCut : {P : Type 0} → ProbeAnswers P → Config → Bool → ℕ → (before : ReportState P) → Option (List ℕ) → Type 0
-TurnCut {P} answers settings traced fsdi before written =
+-- It is a lane's turn, of which nothing was written, and the state of who answers is the one after its exchange (this project's own).
+pub record TurnLeft {P : Type 0} (traced : Bool) (steps : ProbeSteps P) (fsdi : ℕ) (before after : ReportState P) (run : Run P) : Type 0 where
+  pub turn : is_some (next_turn (is_live run) (length before.works) run.order) ≡ true
+  pub wrote : after.written ≡ before.written
+  pub probe : after.probe ≡ (run_step traced steps fsdi (length before.works) run).probe
+
+-- So it is for whatever run was shown (this project's own).
+abbrev pub TurnUnanswered : {P : Type 0} → ProbeAnswers P → Config → Bool → ℕ → (before after : ReportState P) → Type 0
+TurnUnanswered {P} answers settings traced fsdi before after =
     (steps : ProbeSteps P) → Tells answers steps → (start : Option (List ℕ)) (run : Run P) → Shows settings fsdi start before run →
-    AppendsPrefix start written (run_step traced steps fsdi (length before.works) run).text
+    TurnLeft traced steps fsdi before after run
+
+-- The one or the other, by whether the exchange was made (this project's own).
+abbrev pub TurnCame : {P : Type 0} → ProbeAnswers P → Config → Bool → ℕ → (before after : ReportState P) → (made : Bool) → Type 0
+TurnCame answers settings traced fsdi before after true = TurnTaken answers settings traced fsdi before after
+TurnCame answers settings traced fsdi before after false = TurnUnanswered answers settings traced fsdi before after
+
+-- A first part of a run's text after its next exchange was written, and the probe went on (this project's own).
+pub record StepCut {P : Type 0} (traced : Bool) (steps : ProbeSteps P) (fsdi count : ℕ) (start written : Option (List ℕ)) (q : P) (run : Run P) : Type 0 where
+  pub part : AppendsPrefix start written (run_step traced steps fsdi count run).text
+  pub probe : q ≡ (run_step traced steps fsdi count run).probe
+
+-- A turn was cut short: so it is for whatever run was shown (this project's own).
+abbrev pub TurnCut : {P : Type 0} → ProbeAnswers P → Config → Bool → ℕ → (before : ReportState P) → (q : P) → Option (List ℕ) → Type 0
+TurnCut {P} answers settings traced fsdi before q written =
+    (steps : ProbeSteps P) → Tells answers steps → (start : Option (List ℕ)) (run : Run P) → Shows settings fsdi start before run →
+    StepCut traced steps fsdi (length before.works) start written q run

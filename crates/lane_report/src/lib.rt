@@ -1,7 +1,8 @@
-//! The report of several lanes as they run: one exchange of one lane per turn, and each turn's lines are pushed to a sink
-//! (this project's own).
+//! The report of several lanes as they run: one exchange of one lane per turn, whoever answers it, and each turn's lines are
+//! pushed to a sink (this project's own).
 #![tactic(auto)]
 
+mod answering;
 mod opening;
 mod run;
 #[cfg(test)]
@@ -9,4 +10,5 @@ mod tests;
 mod turning;
 mod writing;
 
-pub use run::report_lanes;
+pub use answering::{Answers, ByFields};
+pub use run::{report_lanes, run_lanes};

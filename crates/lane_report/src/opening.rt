@@ -20,7 +20,7 @@ use pre_processing::prepare;
 use scenario::{Job, Scripts};
 
 // Begins a transaction of a lane and writes its events so far, and its log where nothing is asked. It says whether an
-// exchange is asked.
+// exchange is asked. The events are put into the list in place of others.
 //
 // Errors: the sink failed; a first part of this was written.
 fn begin_one<K: Sink>(
@@ -31,6 +31,7 @@ fn begin_one<K: Sink>(
     work: &mut LaneJobs,
     job: Job,
     output: &mut K,
+    events: &mut EventList,
 ) -> Result<bool, SinkFailed>
     requires code { fsdi ≤ 8 }
     requires live { is_live (held_of lanes.old) lane ≡ true }
@@ -55,10 +56,10 @@ fn begin_one<K: Sink>(
         scripts,
     } = job;
     let prepared = prepare(config, txn_type, amount);
-    let mut events = EventList::new();
-    let turned = lanes.begin(lane, &prepared, scripts, fsdi, &mut events);
+    events.clear();
+    let turned = lanes.begin(lane, &prepared, scripts, fsdi, events);
     let txn = work.txn();
-    match write_events(lane, txn, &events, output) {
+    match write_events(lane, txn, &*events, output) {
         Ok(()) => {}
         Err(_) => return Err(SinkFailed),
     }
@@ -76,7 +77,8 @@ fn begin_one<K: Sink>(
 }
 
 /// Begins the next transactions of a live lane without an open one, one after another, until one asks an exchange. Of each
-/// its events so far are written, and its log where it asks nothing. Where none is left the lane has ended.
+/// its events so far are written, and its log where it asks nothing. Where none is left the lane has ended. The events are
+/// put into the list in place of others.
 ///
 /// Errors: the sink failed; a first part of the lines was written.
 pub(crate) fn begin_next<K: Sink>(
@@ -86,6 +88,7 @@ pub(crate) fn begin_next<K: Sink>(
     fsdi: u8,
     work: &mut LaneJobs,
     output: &mut K,
+    events: &mut EventList,
 ) -> Result<(), SinkFailed>
     requires code { fsdi ≤ 8 }
     requires live { is_live (held_of lanes.old) lane ≡ true }
@@ -105,7 +108,7 @@ pub(crate) fn begin_next<K: Sink>(
     ensures order { (held_of lanes.new).order ≡ (held_of lanes.old).order }
 {
     'each: while let Some(job) = work.next_job() {
-        match begin_one(lane, lanes, config, fsdi, work, job, output) {
+        match begin_one(lane, lanes, config, fsdi, work, job, output, events) {
             Ok(true) => return Ok(()),
             Ok(false) => {}
             Err(_) => return Err(SinkFailed),

@@ -1,34 +1,46 @@
 //! The report of all lanes.
-ghost use Rattle.std.specs.Prelude.{◌≡◌, ◌≤◌, All, length, OnOk, OnErr, IsErr, is_some};
+ghost use Rattle.std.specs.Prelude.{◌≡◌, ◌≤◌, All, length, IfOk, OnOk, OnErr, IsErr, is_some};
 ghost use Rattle.ep_base.specs.Streams.Causes.{HasCause};
 ghost use Rattle.ep_base.specs.Streams.Io.{AppendsPrefix};
+ghost use Rattle.ep_base.specs.declared.limits.TheConstants.{LANES};
 ghost use Rattle.ep_lanes.specs.Lanes.{new_lanes};
 ghost use Rattle.ep_claim.specs.Lanes.WholeRun.{opening_text};
 ghost use Rattle.lane_report.specs.Made.{TurnsCut, TurnsMade};
-ghost use Rattle.lane_report.specs.Reports.{IsNewWork, LanesOpened, Reports, ReportsPart};
+ghost use Rattle.lane_report.specs.Reports.{IsNewWork, LanesOpened, Reports, ReportsPart, RunsPart, RunsTo};
 ghost use Rattle.lane_report.specs.Shows.{Fits};
 ghost use Rattle.ep_lanes.specs.Scripted.{held_of};
 ghost use Rattle.lane_jobs.specs.Works.{all_jobs};
 
+use crate::answering::{Answers, ByFields};
 use crate::opening::begin_next;
 use crate::turning::take_turn;
 use acquirer_config::Config;
-use ep_base::{COMMAND_EXCHANGES, PAIRS, START_EXCHANGES, Sink, SinkFailed};
+use ep_base::{
+    COMMAND_EXCHANGES, LANES, PAIRS, SCRIPTS, START_EXCHANGES, STEPS, Sink, SinkFailed,
+    TRANSACTIONS,
+};
 use ep_lanes::{EventList, Lanes, Probe};
 use lane_jobs::LaneJobs;
 use scenario::Scripts;
 
-// The most exchanges of one transaction: those of its most commands, and of five Start Bs.
-const MOST_OF_ONE: u64 = (COMMAND_EXCHANGES * (5 * (1 + PAIRS) + 64) + 5 * START_EXCHANGES) as u64;
+// The most Start Bs of one transaction: one more than its scripts.
+const STARTS: usize = SCRIPTS + 1;
 
-// The most exchanges of at most 8 lanes of at most 64 transactions, each of at most 16 Combinations, 4 scripts and 64 steps.
-const MOST_EXCHANGES: u64 = 512 * MOST_OF_ONE;
+// The most commands of one transaction: those of its Start Bs, and those of its scripts.
+const COMMANDS: usize = STARTS * (1 + PAIRS) + SCRIPTS * STEPS;
 
-/// The report of at most 8 lanes as they run: first the lanes are opened in rising order, and then each turn makes one
-/// exchange of one lane, until no lane has one left. Where `traced`, the trace line of each exchange comes before its events.
+// The most exchanges of one transaction: those of its most commands, and of its most Start Bs.
+const MOST_OF_ONE: usize = COMMAND_EXCHANGES * COMMANDS + STARTS * START_EXCHANGES;
+
+// The most exchanges of all lanes, each of so many transactions.
+const MOST_EXCHANGES: u64 = (LANES * TRANSACTIONS * MOST_OF_ONE) as u64;
+
+/// The report of at most `LANES` lanes as they run over their fields, with this probe: first the lanes are opened in rising
+/// order, and then each turn makes one exchange of one lane, until no lane has one left. Where `traced`, the trace line of each
+/// exchange comes before its events.
 ///
-/// The lanes are new, and what each has to do are at most 64 transactions within this project's limits; the reader's frame
-/// size code is at most 8. Nothing here takes memory.
+/// The lanes are new, and what each has to do are at most `TRANSACTIONS` transactions within this project's limits; the reader's
+/// frame size code is at most 8. Nothing here takes memory.
 ///
 /// Errors: the sink has failed; a first part of the report was written.
 pub fn report_lanes<K: Sink, P: Probe>(
@@ -42,7 +54,7 @@ pub fn report_lanes<K: Sink, P: Probe>(
 ) -> Result<(), SinkFailed>
     requires code { fsdi ≤ 8 }
     requires new { held_of lanes.old ≡ new_lanes (length works.old) (held_of lanes.old).order.turns }
-    requires few { length works.old ≤ 8 }
+    requires few { length works.old ≤ LANES }
     requires works { All (IsNewWork config.now) works.old }
     ensures ok { OnOk result (Reports P.steps config.now traced fsdi (held_of lanes.old).order.turns
         (record { lanes = held_of lanes.old; works = works.old; probe = P.state probe.old; written = K.written output.old })
@@ -53,8 +65,54 @@ pub fn report_lanes<K: Sink, P: Probe>(
     ensures told { is_some (K.written output.new) ≡ is_some (K.written output.old) }
     ensures cause { HasCause (K.faults output.old) (K.faults output.new) (IsErr result) }
 {
-    match open_lanes(lanes, config, fsdi, works, output) {
-        Ok(()) => make_turns(lanes, config, fsdi, traced, works, output, probe),
+    match run_lanes::<K, ByFields, P>(lanes, config, fsdi, traced, works, output, probe) {
+        Ok(_) => Ok(()),
+        Err(_) => Err(SinkFailed),
+    }
+}
+
+/// Runs at most `LANES` lanes as a report does, whoever answers their exchanges. It says whether the run is over: no lane has an
+/// exchange left, or else the next exchange had no answer. Before that one all was written, and who answers is in the state in
+/// which it failed.
+///
+/// The lanes are new, and what each has to do are at most `TRANSACTIONS` transactions within this project's limits; the reader's
+/// frame size code is at most 8. Nothing here takes memory.
+///
+/// Errors: the sink has failed; a first part of what such a run writes was written.
+pub fn run_lanes<K: Sink, By, A: Answers<By>>(
+    lanes: &mut Lanes<Scripts>,
+    config: &Config,
+    fsdi: u8,
+    traced: bool,
+    works: &mut [LaneJobs],
+    output: &mut K,
+    answers: &mut A,
+) -> Result<bool, SinkFailed>
+    requires code { fsdi ≤ 8 }
+    requires new { held_of lanes.old ≡ new_lanes (length works.old) (held_of lanes.old).order.turns }
+    requires few { length works.old ≤ LANES }
+    requires works { All (IsNewWork config.now) works.old }
+    ensures ok { IfOk result (RunsTo A.steps A.has_failed config.now traced fsdi (held_of lanes.old).order.turns
+        (record { lanes = held_of lanes.old; works = works.old; probe = A.state answers.old; written = K.written output.old })
+        (record { lanes = held_of lanes.new; works = works.new; probe = A.state answers.new; written = K.written output.new })) }
+    ensures err { OnErr result (RunsPart A.steps A.has_failed config.now traced fsdi (held_of lanes.old).order.turns
+        (record { lanes = held_of lanes.old; works = works.old; probe = A.state answers.old; written = K.written output.old })
+        (K.written output.new)) }
+    ensures told { is_some (K.written output.new) ≡ is_some (K.written output.old) }
+    ensures cause { HasCause (K.faults output.old) (K.faults output.new) (IsErr result) }
+{
+    let mut events = EventList::new();
+    match open_lanes(lanes, config, fsdi, works, output, &mut events) {
+        Ok(()) => make_turns::<K, By, A>(
+            lanes,
+            config,
+            fsdi,
+            traced,
+            works,
+            output,
+            answers,
+            &mut events,
+        ),
         Err(_) => Err(SinkFailed),
     }
 }
@@ -66,10 +124,11 @@ fn open_lanes<K: Sink>(
     fsdi: u8,
     works: &mut [LaneJobs],
     output: &mut K,
+    events: &mut EventList,
 ) -> Result<(), SinkFailed>
     requires code { fsdi ≤ 8 }
     requires new { held_of lanes.old ≡ new_lanes (length works.old) (held_of lanes.old).order.turns }
-    requires few { length works.old ≤ 8 }
+    requires few { length works.old ≤ LANES }
     requires works { All (IsNewWork config.now) works.old }
     ensures ok { OnOk result (LanesOpened config.now fsdi (held_of lanes.old).order.turns
         (record { lanes = held_of lanes.old; works = works.old; probe = tt {0}; written = K.written output.old })
@@ -82,7 +141,7 @@ fn open_lanes<K: Sink>(
 {
     let mut lane = 1u8;
     for work in works.iter_mut() {
-        match begin_next(lane, lanes, config, fsdi, work, output) {
+        match begin_next(lane, lanes, config, fsdi, work, output, events) {
             Ok(()) => {}
             Err(_) => return Err(SinkFailed),
         }
@@ -91,46 +150,39 @@ fn open_lanes<K: Sink>(
     Ok(())
 }
 
-// Makes the turns until no lane has an exchange left.
-fn make_turns<K: Sink, P: Probe>(
+// Makes the turns until no lane has an exchange left, or the next one has no answer. It says whether all were made.
+fn make_turns<K: Sink, By, A: Answers<By>>(
     lanes: &mut Lanes<Scripts>,
     config: &Config,
     fsdi: u8,
     traced: bool,
     works: &mut [LaneJobs],
     output: &mut K,
-    probe: &mut P,
-) -> Result<(), SinkFailed>
+    answers: &mut A,
+    events: &mut EventList,
+) -> Result<bool, SinkFailed>
     requires code { fsdi ≤ 8 }
     requires fits { Fits (held_of lanes.old) works.old }
-    ensures ok { OnOk result (TurnsMade P.steps config.now traced fsdi
-        (record { lanes = held_of lanes.old; works = works.old; probe = P.state probe.old; written = K.written output.old })
-        (record { lanes = held_of lanes.new; works = works.new; probe = P.state probe.new; written = K.written output.new })) }
-    ensures err { OnErr result (TurnsCut P.steps config.now traced fsdi
-        (record { lanes = held_of lanes.old; works = works.old; probe = P.state probe.old; written = K.written output.old })
+    ensures ok { IfOk result (TurnsMade A.steps A.has_failed config.now traced fsdi
+        (record { lanes = held_of lanes.old; works = works.old; probe = A.state answers.old; written = K.written output.old })
+        (record { lanes = held_of lanes.new; works = works.new; probe = A.state answers.new; written = K.written output.new })) }
+    ensures err { OnErr result (TurnsCut A.steps A.has_failed config.now traced fsdi
+        (record { lanes = held_of lanes.old; works = works.old; probe = A.state answers.old; written = K.written output.old })
         (K.written output.new)) }
     ensures told { is_some (K.written output.new) ≡ is_some (K.written output.old) }
     ensures cause { HasCause (K.faults output.old) (K.faults output.new) (IsErr result) }
 {
-    let mut events = EventList::new();
     for _made in 0..MOST_EXCHANGES {
         let Some(lane) = lanes.next() else {
-            return Ok(());
+            return Ok(true);
         };
-        match take_turn(
-            lane,
-            lanes,
-            config,
-            fsdi,
-            traced,
-            works,
-            output,
-            probe,
-            &mut events,
+        match take_turn::<K, By, A>(
+            lane, lanes, config, fsdi, traced, works, output, answers, events,
         ) {
-            Ok(()) => {}
+            Ok(true) => {}
+            Ok(false) => return Ok(false),
             Err(_) => return Err(SinkFailed),
         }
     }
-    Ok(())
+    Ok(true)
 }

@@ -1,7 +1,6 @@
 //! A turn: one exchange of one lane, and what is written of it.
-ghost use Rattle.std.specs.Prelude.{◌≡◌, ◌≢◌, ◌≤◌, ◌+◌, ◌++◌, ℕ, true, false, Some, None, OnOk, OnErr, IsErr, is_some, length};
+ghost use Rattle.std.specs.Prelude.{◌≡◌, ◌≢◌, ◌≤◌, ◌+◌, ◌++◌, ℕ, true, false, not, Some, IfOk, OnOk, OnErr, IsErr, is_some, length};
 ghost use Rattle.std.specs.Io.KnownBytes.{Appends};
-ghost use Rattle.arrayvec.specs.ArrayVec.{array_vec_len};
 ghost use Rattle.ep_base.specs.Streams.Causes.{HasCause};
 ghost use Rattle.ep_base.specs.Cards.Field as plain;
 ghost use Rattle.ep_base.specs.Streams.Io.{AppendsPrefix};
@@ -9,53 +8,19 @@ ghost use Rattle.ep_claim.specs.Text.WrittenText.{log_lines};
 ghost use Rattle.ep_lanes.specs.Lanes.{count_of, has_open, is_live, lane_of, next_lane, next_of};
 ghost use Rattle.ep_lanes.specs.Saying.{is_goes};
 ghost use Rattle.ep_claim.specs.Lanes.LaneText.{after_text, opens};
-ghost use Rattle.session_phases.specs.Told.{told_by};
 ghost use Rattle.lane_report.specs.Shows.{Fits, FitsLane};
 ghost use Rattle.ep_lanes.specs.Scripted.{held_of};
-ghost use Rattle.lane_report.specs.Turned.{GoesOn, GoesOnPart, HeardTurn, LaneCut, LaneTurned, TurnCut, TurnTaken, Wrote};
+ghost use Rattle.lane_report.specs.Turned.{GoesOn, GoesOnPart, LaneCame, LaneCut, TurnCame, TurnCut, Wrote};
 ghost use Rattle.lane_jobs.specs.Works.{jobs_of};
 
+use crate::answering::Answers;
 use crate::opening::begin_next;
 use crate::writing::write_exchange;
 use acquirer_config::Config;
 use ep_base::{Sink, SinkFailed};
-use ep_lanes::{EventList, Lanes, Probe, Turned};
+use ep_lanes::{EventList, Lanes, Turned};
 use lane_jobs::{LaneJobs, write_log};
 use scenario::Scripts;
-
-// Makes the next exchange, which is one of this lane, over the field of its open transaction. A field never fails.
-fn hear_next<P: Probe>(
-    lane: u8,
-    lanes: &mut Lanes<Scripts>,
-    work: &mut LaneJobs,
-    probe: &mut P,
-    events: &mut EventList,
-) -> Turned
-    requires next { next_lane (held_of lanes.old) ≡ Some lane }
-    requires opened { has_open (held_of lanes.old) lane ≡ true }
-    requires field { is_some work.old.field ≡ true }
-    requires empty { array_vec_len events.old ≡ 0 }
-    ensures turns { (f : plain.Field) → work.old.field ≡ Some f →
-        HeardTurn P.steps lane (held_of lanes.old) f (P.state probe.old) result (told_by events.new.items) (held_of lanes.new) work.new.field (P.state probe.new) }
-    ensures made { is_some (held_of lanes.new).last ≡ true }
-    ensures live { is_live (held_of lanes.new) lane ≡ true }
-    ensures goes { has_open (held_of lanes.new) lane ≡ is_goes result }
-    ensures field { is_some work.new.field ≡ true }
-    ensures left { work.new.left ≡ work.old.left }
-    ensures number { work.new.txn ≡ work.old.txn }
-    ensures others { (k : ℕ) → k ≢ lane → lane_of (held_of lanes.new) k ≡ lane_of (held_of lanes.old) k }
-    ensures count { count_of (held_of lanes.new) ≡ count_of (held_of lanes.old) }
-    ensures order { next_of (held_of lanes.old) ≡ Some (lane, (held_of lanes.new).order) }
-{
-    let Some(mut field) = work.take_field() else {
-        unreachable!()
-    };
-    let Ok(turned) = lanes.turn(lane, &mut field, probe, events) else {
-        unreachable!()
-    };
-    work.put_field(field);
-    turned
-}
 
 // Writes the log of a transaction that ended, and opens the lane's next one.
 //
@@ -67,6 +32,7 @@ fn close_and_next<K: Sink>(
     fsdi: u8,
     work: &mut LaneJobs,
     output: &mut K,
+    events: &mut EventList,
 ) -> Result<(), SinkFailed>
     requires code { fsdi ≤ 8 }
     requires live { is_live (held_of lanes.old) lane ≡ true }
@@ -88,7 +54,7 @@ fn close_and_next<K: Sink>(
         unreachable!()
     };
     match write_log(lane, work.txn(), field.log().records(), output) {
-        Ok(()) => begin_next(lane, lanes, config, fsdi, work, output),
+        Ok(()) => begin_next(lane, lanes, config, fsdi, work, output, events),
         Err(_) => Err(SinkFailed),
     }
 }
@@ -104,6 +70,7 @@ fn go_on<K: Sink>(
     turned: Turned,
     work: &mut LaneJobs,
     output: &mut K,
+    events: &mut EventList,
 ) -> Result<(), SinkFailed>
     requires code { fsdi ≤ 8 }
     requires live { is_live (held_of lanes.old) lane ≡ true }
@@ -121,14 +88,15 @@ fn go_on<K: Sink>(
 {
     match turned {
         Turned::Goes => Ok(()),
-        Turned::Ended(_) => close_and_next(lane, lanes, config, fsdi, work, output),
+        Turned::Ended(_) => close_and_next(lane, lanes, config, fsdi, work, output, events),
     }
 }
 
-// The turn of this lane, with what it has to do. Its events are written in place of those of the turn before.
+// The turn of this lane, with what it has to do. Its events are written in place of those of the turn before. It says whether
+// its exchange was answered; where it wasn't, nothing is written.
 //
 // Errors: the sink failed; a first part of the lines was written.
-fn turn_lane<K: Sink, P: Probe>(
+fn turn_lane<K: Sink, By, A: Answers<By>>(
     lane: u8,
     lanes: &mut Lanes<Scripts>,
     config: &Config,
@@ -136,20 +104,22 @@ fn turn_lane<K: Sink, P: Probe>(
     traced: bool,
     work: &mut LaneJobs,
     output: &mut K,
-    probe: &mut P,
+    answers: &mut A,
     events: &mut EventList,
-) -> Result<(), SinkFailed>
+) -> Result<bool, SinkFailed>
     requires code { fsdi ≤ 8 }
     requires next { next_lane (held_of lanes.old) ≡ Some lane }
     requires opened { has_open (held_of lanes.old) lane ≡ true }
     requires field { is_some work.old.field ≡ true }
-    ensures ok { OnOk result (LaneTurned P.steps config.now traced fsdi lane
-        (record { held = lane_of (held_of lanes.old) lane; work = work.old; probe = P.state probe.old; written = K.written output.old })
-        (record { held = lane_of (held_of lanes.new) lane; work = work.new; probe = P.state probe.new; written = K.written output.new })) }
-    ensures fits { OnOk result (FitsLane (lane_of (held_of lanes.new) lane) work.new) }
-    ensures err { OnErr result (LaneCut P.steps config.now traced fsdi lane
-        (record { held = lane_of (held_of lanes.old) lane; work = work.old; probe = P.state probe.old; written = K.written output.old })
-        (K.written output.new)) }
+    ensures ok { IfOk result (λ made. LaneCame A.steps config.now traced fsdi lane
+        (record { held = lane_of (held_of lanes.old) lane; work = work.old; probe = A.state answers.old; written = K.written output.old })
+        (record { held = lane_of (held_of lanes.new) lane; work = work.new; probe = A.state answers.new; written = K.written output.new }) made) }
+    ensures answered { IfOk result (λ made. A.has_failed (A.state answers.new) ≡ not made) }
+    ensures fits { IfOk result (λ made. made ≡ true → FitsLane (lane_of (held_of lanes.new) lane) work.new) }
+    ensures err { OnErr result (LaneCut A.steps config.now traced fsdi lane
+        (record { held = lane_of (held_of lanes.old) lane; work = work.old; probe = A.state answers.old; written = K.written output.old })
+        (A.state answers.new) (K.written output.new)) }
+    ensures heard { OnErr result (A.has_failed (A.state answers.new) ≡ false) }
     ensures told { is_some (K.written output.new) ≡ is_some (K.written output.old) }
     ensures cause { HasCause (K.faults output.old) (K.faults output.new) (IsErr result) }
     ensures others { (k : ℕ) → k ≢ lane → lane_of (held_of lanes.new) k ≡ lane_of (held_of lanes.old) k }
@@ -157,22 +127,29 @@ fn turn_lane<K: Sink, P: Probe>(
     ensures order { next_of (held_of lanes.old) ≡ Some (lane, (held_of lanes.new).order) }
 {
     events.clear();
-    let turned = hear_next(lane, lanes, work, probe, events);
+    let Some(turned) = answers.turn(lane, lanes, work, events) else {
+        return Ok(false);
+    };
     let Some(made) = lanes.last() else {
         unreachable!()
     };
     match write_exchange(traced, made, work.txn(), &*events, output) {
-        Ok(()) => go_on(lane, lanes, config, fsdi, turned, work, output),
+        Ok(()) => {}
+        Err(_) => return Err(SinkFailed),
+    }
+    match go_on(lane, lanes, config, fsdi, turned, work, output, events) {
+        Ok(()) => Ok(true),
         Err(_) => Err(SinkFailed),
     }
 }
 
-/// Takes the next turn, which is one of this lane: makes its exchange over the field of its open transaction, and writes
-/// its trace line, where a trace is wanted, and its events. Where the transaction ended its log follows, and the lane's
-/// next transaction is opened. Its events are written in place of those of the turn before.
+/// Takes the next turn, which is one of this lane: it makes its exchange, and its trace line is written, where a trace is
+/// wanted, and its events. Where the transaction ended its log follows, and the lane's next transaction is opened. Its events
+/// are written in place of those of the turn before. It says whether the exchange was answered; where it wasn't, nothing is
+/// written.
 ///
 /// Errors: the sink failed; a first part of the lines was written.
-pub(crate) fn take_turn<K: Sink, P: Probe>(
+pub(crate) fn take_turn<K: Sink, By, A: Answers<By>>(
     lane: u8,
     lanes: &mut Lanes<Scripts>,
     config: &Config,
@@ -180,25 +157,27 @@ pub(crate) fn take_turn<K: Sink, P: Probe>(
     traced: bool,
     works: &mut [LaneJobs],
     output: &mut K,
-    probe: &mut P,
+    answers: &mut A,
     events: &mut EventList,
-) -> Result<(), SinkFailed>
+) -> Result<bool, SinkFailed>
     requires code { fsdi ≤ 8 }
     requires next { next_lane (held_of lanes.old) ≡ Some lane }
     requires fits { Fits (held_of lanes.old) works.old }
-    ensures ok { OnOk result (TurnTaken P.steps config.now traced fsdi
-        (record { lanes = held_of lanes.old; works = works.old; probe = P.state probe.old; written = K.written output.old })
-        (record { lanes = held_of lanes.new; works = works.new; probe = P.state probe.new; written = K.written output.new })) }
-    ensures fits { OnOk result (Fits (held_of lanes.new) works.new) }
-    ensures err { OnErr result (TurnCut P.steps config.now traced fsdi
-        (record { lanes = held_of lanes.old; works = works.old; probe = P.state probe.old; written = K.written output.old })
-        (K.written output.new)) }
+    ensures ok { IfOk result (λ made. TurnCame A.steps config.now traced fsdi
+        (record { lanes = held_of lanes.old; works = works.old; probe = A.state answers.old; written = K.written output.old })
+        (record { lanes = held_of lanes.new; works = works.new; probe = A.state answers.new; written = K.written output.new }) made) }
+    ensures answered { IfOk result (λ made. A.has_failed (A.state answers.new) ≡ not made) }
+    ensures fits { IfOk result (λ made. made ≡ true → Fits (held_of lanes.new) works.new) }
+    ensures err { OnErr result (TurnCut A.steps config.now traced fsdi
+        (record { lanes = held_of lanes.old; works = works.old; probe = A.state answers.old; written = K.written output.old })
+        (A.state answers.new) (K.written output.new)) }
+    ensures heard { OnErr result (A.has_failed (A.state answers.new) ≡ false) }
     ensures told { is_some (K.written output.new) ≡ is_some (K.written output.old) }
     ensures cause { HasCause (K.faults output.old) (K.faults output.new) (IsErr result) }
     ensures length { length works.new ≡ length works.old }
 {
     let work = &mut works[usize::from(lane) - 1];
-    turn_lane(
-        lane, lanes, config, fsdi, traced, work, output, probe, events,
+    turn_lane::<K, By, A>(
+        lane, lanes, config, fsdi, traced, work, output, answers, events,
     )
 }

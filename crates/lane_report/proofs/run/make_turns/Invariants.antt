@@ -9,14 +9,14 @@ use Rattle.lane_report.proofs.run.make_turns.Given as goal
 abbrev pub invariant-loop-made : goal.invariant-loop-made
 invariant-loop-made g l =
     let K = g.K.Sink in
-    let P = g.P.Probe in
+    let A = g.A.Answers in
     record {
       fits : Fits (held_of l.lanes) l.works;
       size : length l.works ≡ length l.fn.works;
       taken :
-          TurnsTaken P.steps l.config l.traced l.fsdi l._made
-          (record { lanes = held_of l.fn.lanes; works = l.fn.works; probe = P.state l.fn.probe; written = K.written l.fn.output })
-          (record { lanes = held_of l.lanes; works = l.works; probe = P.state l.probe; written = K.written l.output });
+          TurnsTaken A.steps A.has_failed l.config l.traced l.fsdi l._made
+          (record { lanes = held_of l.fn.lanes; works = l.fn.works; probe = A.state l.fn.answers; written = K.written l.fn.output })
+          (record { lanes = held_of l.lanes; works = l.works; probe = A.state l.answers; written = K.written l.output });
       told : is_some (K.written l.output) ≡ is_some (K.written l.fn.output);
       later : K.faults l.fn.output ≤ K.faults l.output;
     }

@@ -1,7 +1,7 @@
 use Rattle.std.proofs.Common.{arith, ◌≡◌, ◌≤◌, ◌∙◌, sym, ap, subst, [], length, All}
 use Rattle.std.specs.Prelude.{None}
 use Rattle.std.proofs.lemmas.List.Elements.{All-nil}
-use Rattle.ep_base.specs.declared.limits.TheConstants.{TYPE_COMBINATIONS}
+use Rattle.ep_base.specs.declared.limits.TheConstants.{SCRIPTS, STEPS, TYPE_COMBINATIONS}
 use Rattle.ep_rules.specs.EntryPoint.Configuration.{Config, AreCombinations, count_of}
 use Rattle.ep_rules.specs.EntryPoint.Kernel.{Script, Scripted}
 use Rattle.ep_rules.specs.EntryPoint.KernelCommands.{ScriptedSends}
@@ -17,8 +17,8 @@ few_of : (settings : Config) (w : Work) → w.scripts ≡ nothing → count_of w
 few_of settings w e few = record {
   sends = subst ScriptedSends (sym e) (tt, tt);
   rests = ap (λ (s : Scripted). s.running) e;
-  scripts = subst (λ (s : Scripted). length s.scripts ≤ 4) (sym e) (omega arith);
-  steps = subst (λ (s : Scripted). All (λ (x : Script). length x.steps ≤ 16) s.scripts) (sym e) (All-nil (λ (x : Script). length x.steps ≤ 16));
+  scripts = subst (λ (s : Scripted). length s.scripts ≤ SCRIPTS) (sym e) (omega arith);
+  steps = subst (λ (s : Scripted). All (λ (x : Script). length x.steps ≤ STEPS) s.scripts) (sym e) (All-nil (λ (x : Script). length x.steps ≤ STEPS));
   combinations = few;
 }
 

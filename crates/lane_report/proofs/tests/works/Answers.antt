@@ -1,12 +1,13 @@
 use Rattle.std.proofs.Common.{rules, arith, ◌≡◌, ◌≤◌, refl, sym, subst, List, [], ◌∷◌, length, All}
 use Rattle.std.proofs.lemmas.List.Elements.{All-nil, All-cons}
+use Rattle.ep_base.specs.declared.limits.TheConstants.{TRANSACTIONS}
 use Rattle.ep_rules.specs.EntryPoint.Configuration.{Config}
 use Rattle.scenario.specs.Scenario.{Work}
 use Rattle.lane_report.specs.Reports.{IsFew, IsNewWork}
 use Rattle.lane_jobs.specs.Works.{LaneWork, new_work}
 use Rattle.lane_report.proofs.tests.works.Goals as goal
 
-is_new : (settings : Config) (jobs : List Work) → length jobs ≤ 64 → All (IsFew settings) jobs → IsNewWork settings (new_work jobs)
+is_new : (settings : Config) (jobs : List Work) → length jobs ≤ TRANSACTIONS → All (IsFew settings) jobs → IsNewWork settings (new_work jobs)
 is_new settings jobs short few = record { none = refl; first = refl; short = short; few = few }
 
 all_new : (settings : Config) (works : List LaneWork) (a b d : Work) → works ≡ new_work (a ∷ b ∷ []) ∷ new_work (d ∷ []) ∷ []

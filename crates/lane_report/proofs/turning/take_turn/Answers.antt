@@ -1,11 +1,11 @@
 use Rattle.std.proofs.Common.{arith, ◌-◌, ◌∙◌, refl, ap, is_some, slice_index_or, slice_set}
 use Rattle.std.proofs.lemmas.List.{length-set}
-use Rattle.std.proofs.lemmas.Result.{on_ok_weaker}
+use Rattle.std.proofs.lemmas.Result.{IfOk-weaker}
 use Rattle.ep_lanes.specs.Scripted.{held_of}
 use Rattle.lane_jobs.specs.Works.{LaneWork}
 use Rattle.lane_jobs.proofs.Results.{on_err_weaker}
 use Rattle.lane_jobs.proofs.Places.{found, changed, others}
-use Rattle.lane_report.proofs.Steps.{next_there, turn_taken, turn_cut, fits_after}
+use Rattle.lane_report.proofs.Steps.{next_there, turn_came, turn_cut, fits_after}
 use Rattle.ep_lanes.proofs.Ordering.{next_live}
 use Rattle.lane_report.proofs.turning.take_turn.Goals as goal
 
@@ -30,51 +30,56 @@ turn_lane-requires-clause-field g c =
 pub returns-clause-ok : goal.returns-clause-ok
 returns-clause-ok g c =
     let there = next_there (held_of c.args.lanes.now) c.args.works.now c.args.lane c.requires.fits c.requires.next in
-    on_ok_weaker c.turn_lane.result
-    (turn_taken g.P.Probe.steps c.args.config.now c.args.traced c.args.fsdi c.args.lane
+    IfOk-weaker c.turn_lane.result _ _
+    (λ made law.
+    turn_came g.A.Answers.steps c.args.config.now c.args.traced c.args.fsdi c.args.lane
     (record {
       lanes = held_of c.args.lanes.now;
       works = c.args.works.now;
-      probe = g.P.Probe.state c.args.probe.now;
+      probe = g.A.Answers.state c.args.answers.now;
       written = g.K.Sink.written c.args.output.now;
     })
     (held_of c.turn_lane.new.lanes).order c.turn_lane.ensures.order c.requires.next c.requires.fits
     (slice_index_or c.args.works.now (c.from.result - 1) c.index-works-from.result)
     (found c.args.works.now c.from.result c.args.lane c.from.ensures there c.index-works-from.result)
+    made
     (record {
       lanes = held_of c.turn_lane.new.lanes;
       works = slice_set c.args.works.now (c.from.result - 1) c.turn_lane.new.work;
-      probe = g.P.Probe.state c.turn_lane.new.probe;
+      probe = g.A.Answers.state c.turn_lane.new.answers;
       written = g.K.Sink.written c.turn_lane.new.output;
     })
     c.turn_lane.new.work (changed c.args.works.now c.from.result c.args.lane c.from.ensures there c.turn_lane.new.work)
-    refl c.turn_lane.ensures.others (others c.args.works.now c.from.result c.args.lane c.from.ensures there c.turn_lane.new.work) c.turn_lane.ensures.told)
+    refl c.turn_lane.ensures.others (others c.args.works.now c.from.result c.args.lane c.from.ensures there c.turn_lane.new.work) c.turn_lane.ensures.told
+    law)
     c.turn_lane.ensures.ok
 
 pub returns-clause-fits : goal.returns-clause-fits
 returns-clause-fits g c =
     let there = next_there (held_of c.args.lanes.now) c.args.works.now c.args.lane c.requires.fits c.requires.next in
-    on_ok_weaker c.turn_lane.result
-    (fits_after (held_of c.args.lanes.now) (held_of c.turn_lane.new.lanes) c.args.works.now
+    IfOk-weaker c.turn_lane.result _ _
+    (λ made fits is.
+    fits_after (held_of c.args.lanes.now) (held_of c.turn_lane.new.lanes) c.args.works.now
     (slice_set c.args.works.now (c.from.result - 1) c.turn_lane.new.work)
     c.args.lane c.turn_lane.new.work c.requires.fits c.turn_lane.ensures.count (length-set c.args.works.now (c.from.result - 1) c.turn_lane.new.work)
     (changed c.args.works.now c.from.result c.args.lane c.from.ensures there c.turn_lane.new.work)
-    c.turn_lane.ensures.others (others c.args.works.now c.from.result c.args.lane c.from.ensures there c.turn_lane.new.work))
+    c.turn_lane.ensures.others (others c.args.works.now c.from.result c.args.lane c.from.ensures there c.turn_lane.new.work)
+    (fits is))
     c.turn_lane.ensures.fits
 
 pub returns-clause-err : goal.returns-clause-err
 returns-clause-err g c =
     let there = next_there (held_of c.args.lanes.now) c.args.works.now c.args.lane c.requires.fits c.requires.next in
     on_err_weaker c.turn_lane.result
-    (turn_cut g.P.Probe.steps c.args.config.now c.args.traced c.args.fsdi c.args.lane
+    (turn_cut g.A.Answers.steps c.args.config.now c.args.traced c.args.fsdi c.args.lane
     (record {
       lanes = held_of c.args.lanes.now;
       works = c.args.works.now;
-      probe = g.P.Probe.state c.args.probe.now;
+      probe = g.A.Answers.state c.args.answers.now;
       written = g.K.Sink.written c.args.output.now;
     })
     (held_of c.turn_lane.new.lanes).order c.turn_lane.ensures.order c.requires.next c.requires.fits
     (slice_index_or c.args.works.now (c.from.result - 1) c.index-works-from.result)
     (found c.args.works.now c.from.result c.args.lane c.from.ensures there c.index-works-from.result)
-    (g.K.Sink.written c.turn_lane.new.output))
+    (g.A.Answers.state c.turn_lane.new.answers) (g.K.Sink.written c.turn_lane.new.output))
     c.turn_lane.ensures.err

@@ -1,52 +1,46 @@
-use Rattle.std.proofs.lemmas.Result.{on_ok_weaker}
-use Rattle.ep_lanes.specs.Lanes.{made_of}
+use Rattle.std.proofs.Common.{refl}
+use Rattle.ep_lanes.specs.Lanes.{lane_of, made_of}
 use Rattle.session_phases.specs.Told.{told_by}
 use Rattle.ep_lanes.specs.Scripted.{held_of}
-use Rattle.lane_jobs.proofs.Results.{on_err_weaker}
-use Rattle.lane_report.proofs.Hearing.{is_after, turn_wrote, turn_part, turn_front}
+use Rattle.lane_report.proofs.Hearing.{is_after, turn_wrote, turn_part, turn_front, turn_stopped}
 use Rattle.lane_report.proofs.turning.turn_lane.Goals as goal
 
-pub returns-in-Ok-clause-ok : goal.returns-in-Ok-clause-ok
-returns-in-Ok-clause-ok g c =
-    on_ok_weaker c.go_on.result
-    (λ goes steps tells going shows ask asked.
-    let law = c.hear_next-turned.ensures in
-    turn_wrote g.P.Probe.steps c.args.config.now c.args.traced c.args.fsdi c.args.lane (held_of c.args.lanes.now) (held_of c.hear_next-turned.new.lanes)
-    (g.P.Probe.state c.args.probe.now) (g.P.Probe.state c.hear_next-turned.new.probe) c.hear_next-turned.result
-    (told_by c.hear_next-turned.new.events.items)
-    c.args.work.now c.hear_next-turned.new.work law.turns law.left law.number (made_of c.in-Some.made.now) c.in-Some.ensures c.txn.result c.txn.ensures
-    steps tells going shows ask asked _ _ _ _ _ c.in-Ok.ensures.ok
-    (goes going _
-    (is_after g.P.Probe.steps c.args.config.now c.args.traced c.args.fsdi c.args.lane (held_of c.args.lanes.now) (held_of c.hear_next-turned.new.lanes)
-    (g.P.Probe.state c.args.probe.now) (g.P.Probe.state c.hear_next-turned.new.probe) c.hear_next-turned.result
-    (told_by c.hear_next-turned.new.events.items)
-    c.args.work.now c.hear_next-turned.new.work law.turns law.left law.number (made_of c.in-Some.made.now) c.in-Some.ensures c.txn.result c.txn.ensures
-    steps tells going shows ask asked)))
-    c.go_on.ensures.ok
+pub returns-in_default-clause-ok : goal.returns-in_default-clause-ok
+returns-in_default-clause-ok g c = λ steps tells going shows ask asked.
+    turn_stopped g.A.Answers.steps c.args.config.now c.args.fsdi c.args.lane (lane_of (held_of c.args.lanes.now) c.args.lane) c.args.work.now
+    (g.A.Answers.state c.args.answers.now) (g.A.Answers.state c.turn.new.self) c.in_default.ensures.unheard steps tells going shows ask asked
+    (lane_of (held_of c.turn.new.lanes) c.args.lane) c.turn.new.work _ _ refl
 
-pub returns-in-Ok-clause-err : goal.returns-in-Ok-clause-err
-returns-in-Ok-clause-err g c =
-    on_err_weaker c.go_on.result
-    (λ goes steps tells going shows ask asked.
-    let law = c.hear_next-turned.ensures in
-    turn_part g.P.Probe.steps c.args.config.now c.args.traced c.args.fsdi c.args.lane (held_of c.args.lanes.now) (held_of c.hear_next-turned.new.lanes)
-    (g.P.Probe.state c.args.probe.now) (g.P.Probe.state c.hear_next-turned.new.probe) c.hear_next-turned.result
-    (told_by c.hear_next-turned.new.events.items)
-    c.args.work.now c.hear_next-turned.new.work law.turns law.left law.number (made_of c.in-Some.made.now) c.in-Some.ensures c.txn.result c.txn.ensures
+pub returns-in-Ok-go_on-clause-ok : goal.returns-in-Ok-go_on-clause-ok
+returns-in-Ok-go_on-clause-ok g c = λ steps tells going shows ask asked.
+    let law = c.in-Some.ensures in
+    turn_wrote g.A.Answers.steps c.args.config.now c.args.traced c.args.fsdi c.args.lane (held_of c.args.lanes.now) (held_of c.turn.new.lanes)
+    (g.A.Answers.state c.args.answers.now) (g.A.Answers.state c.turn.new.self) c.in-Some.turned (told_by c.turn.new.events.items)
+    c.args.work.now c.turn.new.work law.turns law.left law.number (made_of c.in-Some-last.made.now) c.in-Some-last.ensures c.txn.result c.txn.ensures
+    steps tells going shows ask asked _ _ _ _ _ c.in-Ok.ensures.ok
+    (c.in-Ok-go_on.ensures.ok going _
+    (is_after g.A.Answers.steps c.args.config.now c.args.traced c.args.fsdi c.args.lane (held_of c.args.lanes.now) (held_of c.turn.new.lanes)
+    (g.A.Answers.state c.args.answers.now) (g.A.Answers.state c.turn.new.self) c.in-Some.turned (told_by c.turn.new.events.items)
+    c.args.work.now c.turn.new.work law.turns law.left law.number (made_of c.in-Some-last.made.now) c.in-Some-last.ensures c.txn.result c.txn.ensures
+    steps tells going shows ask asked))
+
+pub returns-in-Err-go_on-clause-err : goal.returns-in-Err-go_on-clause-err
+returns-in-Err-go_on-clause-err g c = λ steps tells going shows ask asked.
+    let law = c.in-Some.ensures in
+    turn_part g.A.Answers.steps c.args.config.now c.args.traced c.args.fsdi c.args.lane (held_of c.args.lanes.now) (held_of c.turn.new.lanes)
+    (g.A.Answers.state c.args.answers.now) (g.A.Answers.state c.turn.new.self) c.in-Some.turned (told_by c.turn.new.events.items)
+    c.args.work.now c.turn.new.work law.turns law.left law.number (made_of c.in-Some-last.made.now) c.in-Some-last.ensures c.txn.result c.txn.ensures
     steps tells going shows ask asked _ _ _ c.in-Ok.ensures.ok
-    (goes going _
-    (is_after g.P.Probe.steps c.args.config.now c.args.traced c.args.fsdi c.args.lane (held_of c.args.lanes.now) (held_of c.hear_next-turned.new.lanes)
-    (g.P.Probe.state c.args.probe.now) (g.P.Probe.state c.hear_next-turned.new.probe) c.hear_next-turned.result
-    (told_by c.hear_next-turned.new.events.items)
-    c.args.work.now c.hear_next-turned.new.work law.turns law.left law.number (made_of c.in-Some.made.now) c.in-Some.ensures c.txn.result c.txn.ensures
-    steps tells going shows ask asked)))
-    c.go_on.ensures.err
+    (c.in-Err-go_on.ensures.err going _
+    (is_after g.A.Answers.steps c.args.config.now c.args.traced c.args.fsdi c.args.lane (held_of c.args.lanes.now) (held_of c.turn.new.lanes)
+    (g.A.Answers.state c.args.answers.now) (g.A.Answers.state c.turn.new.self) c.in-Some.turned (told_by c.turn.new.events.items)
+    c.args.work.now c.turn.new.work law.turns law.left law.number (made_of c.in-Some-last.made.now) c.in-Some-last.ensures c.txn.result c.txn.ensures
+    steps tells going shows ask asked))
 
 pub returns-in-Err-clause-err : goal.returns-in-Err-clause-err
 returns-in-Err-clause-err g c = λ steps tells going shows ask asked.
-    let law = c.hear_next-turned.ensures in
-    turn_front g.P.Probe.steps c.args.config.now c.args.traced c.args.fsdi c.args.lane (held_of c.args.lanes.now) (held_of c.hear_next-turned.new.lanes)
-    (g.P.Probe.state c.args.probe.now) (g.P.Probe.state c.hear_next-turned.new.probe) c.hear_next-turned.result
-    (told_by c.hear_next-turned.new.events.items)
-    c.args.work.now c.hear_next-turned.new.work law.turns law.left law.number (made_of c.in-Some.made.now) c.in-Some.ensures c.txn.result c.txn.ensures
+    let law = c.in-Some.ensures in
+    turn_front g.A.Answers.steps c.args.config.now c.args.traced c.args.fsdi c.args.lane (held_of c.args.lanes.now) (held_of c.turn.new.lanes)
+    (g.A.Answers.state c.args.answers.now) (g.A.Answers.state c.turn.new.self) c.in-Some.turned (told_by c.turn.new.events.items)
+    c.args.work.now c.turn.new.work law.turns law.left law.number (made_of c.in-Some-last.made.now) c.in-Some-last.ensures c.txn.result c.txn.ensures
     steps tells going shows ask asked _ _ c.in-Err.ensures.err

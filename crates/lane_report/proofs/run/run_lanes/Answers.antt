@@ -1,0 +1,22 @@
+use Rattle.std.proofs.lemmas.Result.{IfOk-weaker}
+use Rattle.ep_lanes.specs.Scripted.{held_of}
+use Rattle.lane_jobs.proofs.Results.{on_err_weaker}
+use Rattle.lane_report.proofs.Reporting.{run_whole, run_part, run_unopened}
+use Rattle.lane_report.proofs.run.run_lanes.Goals as goal
+
+pub returns-in-Ok-clause-ok : goal.returns-in-Ok-clause-ok
+returns-in-Ok-clause-ok g c =
+    IfOk-weaker c.make_turns.result _ _
+    (λ over made. run_whole _ _ _ _ _ _ _ (held_of c.args.lanes.now) _ _ c.requires.few c.requires.works _ _ _ c.in-Ok.ensures.count c.in-Ok.ensures.ok _
+    over made)
+    c.make_turns.ensures.ok
+
+pub returns-in-Ok-clause-err : goal.returns-in-Ok-clause-err
+returns-in-Ok-clause-err g c =
+    on_err_weaker c.make_turns.result
+    (run_part _ _ _ _ _ _ _ (held_of c.args.lanes.now) _ _ c.requires.few c.requires.works _ _ _ c.in-Ok.ensures.count c.in-Ok.ensures.ok _)
+    c.make_turns.ensures.err
+
+pub returns-in-Err-clause-err : goal.returns-in-Err-clause-err
+returns-in-Err-clause-err g c =
+    run_unopened _ _ _ _ _ _ _ (held_of c.args.lanes.now) _ _ c.requires.few c.requires.works _ c.in-Err.ensures.err

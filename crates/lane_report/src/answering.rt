@@ -1,0 +1,90 @@
+//! Who answers the exchanges of lanes.
+ghost use Rattle.std.specs.Prelude.{◌≡◌, ◌≢◌, ℕ, Bool, true, false, Some, IfSome, IfNone, OnSome, is_some};
+ghost use Rattle.arrayvec.specs.ArrayVec.{array_vec_len};
+ghost use Rattle.ep_base.specs.Cards.Field as plain;
+ghost use Rattle.ep_lanes.specs.Lanes.{count_of, has_open, is_live, lane_of, next_lane, next_of};
+ghost use Rattle.ep_lanes.specs.Probing.{ProbeAnswers};
+ghost use Rattle.ep_lanes.specs.Saying.{is_goes};
+ghost use Rattle.ep_lanes.specs.Scripted.{held_of};
+ghost use Rattle.lane_report.specs.Turned.{HeardTurn, UnheardTurn};
+ghost use Rattle.session_phases.specs.Told.{told_by};
+
+use ep_lanes::{EventList, Lanes, Probe, Turned};
+use lane_jobs::LaneJobs;
+use scenario::Scripts;
+
+/// Who answers the exchanges of all lanes, in a way that the parameter names. It means a state, and by its steps what a reader
+/// may hear where its field gave so, and the state after it. In some states it has failed: its last exchange had no answer.
+pub trait Answers<By> {
+    /// What a state is.
+    ghost State: { Type 0 };
+
+    /// Its state.
+    ghost state: { Self → State };
+
+    /// What it may answer in a state, and the state after it.
+    ghost steps: { ProbeAnswers State };
+
+    /// Whether it has failed.
+    ghost has_failed: { State → Bool };
+
+    /// Answers the next exchange, which is one of this lane, where a transaction is open. The events that it adds are put into
+    /// `events`, which is empty before. `None` where it has no answer: it has failed then.
+    fn turn(
+        &mut self,
+        lane: u8,
+        lanes: &mut Lanes<Scripts>,
+        work: &mut LaneJobs,
+        events: &mut EventList,
+    ) -> Option<Turned>
+        requires next { next_lane (held_of lanes.old) ≡ Some lane }
+        requires opened { has_open (held_of lanes.old) lane ≡ true }
+        requires field { is_some work.old.field ≡ true }
+        requires empty { array_vec_len events.old ≡ 0 }
+        ensures turns { IfSome result (λ turned. (f : plain.Field) → work.old.field ≡ Some f →
+            HeardTurn steps lane (held_of lanes.old) f (state self.old) turned (told_by events.new.items) (held_of lanes.new) work.new.field (state self.new)) }
+        ensures answered { OnSome result (has_failed (state self.new) ≡ false) }
+        ensures unheard { IfNone result ((f : plain.Field) → work.old.field ≡ Some f →
+            UnheardTurn steps lane (lane_of (held_of lanes.old) lane) f (state self.old) (state self.new)) }
+        ensures failed { IfNone result (has_failed (state self.new) ≡ true) }
+        ensures made { OnSome result (is_some (held_of lanes.new).last ≡ true) }
+        ensures live { OnSome result (is_live (held_of lanes.new) lane ≡ true) }
+        ensures goes { IfSome result (λ turned. has_open (held_of lanes.new) lane ≡ is_goes turned) }
+        ensures field { OnSome result (is_some work.new.field ≡ true) }
+        ensures left { work.new.left ≡ work.old.left }
+        ensures number { work.new.txn ≡ work.old.txn }
+        ensures others { (k : ℕ) → k ≢ lane → lane_of (held_of lanes.new) k ≡ lane_of (held_of lanes.old) k }
+        ensures count { count_of (held_of lanes.new) ≡ count_of (held_of lanes.old) }
+        ensures order { next_of (held_of lanes.old) ≡ Some (lane, (held_of lanes.new).order) };
+}
+
+/// The way of a probe: the field of each transaction answers, and the probe gives on what it makes of it.
+pub struct ByFields;
+
+impl<P: Probe> Answers<ByFields> for P {
+    ghost State = { P.State };
+
+    ghost state = { P.state };
+
+    ghost steps = { P.steps };
+
+    ghost has_failed = { λ _. false };
+
+    /// Makes the exchange over the field of the lane's open transaction. It never fails.
+    fn turn(
+        &mut self,
+        lane: u8,
+        lanes: &mut Lanes<Scripts>,
+        work: &mut LaneJobs,
+        events: &mut EventList,
+    ) -> Option<Turned> {
+        let Some(mut field) = work.take_field() else {
+            unreachable!()
+        };
+        let Ok(turned) = lanes.turn(lane, &mut field, self, events) else {
+            unreachable!()
+        };
+        work.put_field(field);
+        Some(turned)
+    }
+}
