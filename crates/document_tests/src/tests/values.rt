@@ -32,8 +32,7 @@ fn read_lanes(
 #[test]
 fn frame_size_code(rt: HostRuntime) -> Result<(), Fail> {
     let scenario = read(&rt, DOCUMENT);
-    assert_eq!(rt; scenario.fsdi, 8);
-    assert_eq!(rt; scenario.config.exponent(), 2);
+    assert_eq!(rt; (scenario.fsdi, scenario.config.exponent()), (8, 2));
     let scenario = read_with(&rt, "version = 1\nfsdi = 3")?;
     assert_eq!(rt; scenario.fsdi, 3);
     Ok(())
@@ -43,19 +42,15 @@ fn frame_size_code(rt: HostRuntime) -> Result<(), Fail> {
 fn a_transaction_before_its_first_round(rt: HostRuntime) -> Result<(), Fail> {
     let scenario = read(&rt, DOCUMENT);
     assert_eq!(rt; scenario.lanes.len(), 1);
-    for lane in &scenario.lanes {
-        assert_eq!(rt; lane.len(), 1);
-        for job in lane {
-            assert_eq!(rt; job.txn_type, 0);
-            assert_eq!(rt; job.amount, 1000);
-            assert_eq!(rt; job.field.rounds(), 0);
-            assert_eq!(rt; job.field.exchanges(), 0);
-            assert!(rt; !job.field.gone());
-            // One script with one step, and no Combination of the type: two SELECT PPSE, a step, and one more.
-            assert_eq!(rt; job.field.log().spare(), 4);
-            assert!(rt; job.field.log().records().is_empty());
-        }
-    }
+    let lane = scenario.lanes.first().expect(&rt, "a lane");
+    assert_eq!(rt; lane.len(), 1);
+    let job = lane.first().expect(&rt, "a transaction");
+    assert_eq!(rt; (job.txn_type, job.amount), (0, 1000));
+    let field = &job.field;
+    let before = (field.rounds(), field.exchanges(), field.gone());
+    assert_eq!(rt; before, (0, 0, false));
+    // One script with one step, and no Combination of the type: two SELECT PPSE, a step, and one more.
+    assert_eq!(rt; (field.log().spare(), field.log().records().len()), (4, 0));
     Ok(())
 }
 
@@ -67,19 +62,26 @@ fn one_to_eight_lanes(rt: HostRuntime) -> Result<(), Fail> {
     Ok(())
 }
 
+/// A document of so many lanes with these lines has these turns.
+fn check_turns(
+    rt: &(impl Abort + AllocGlobal),
+    count: usize,
+    lines: &str,
+    wanted: &str,
+) -> Result<(), Fail> {
+    let scenario = read_lanes(rt, count, lines)?;
+    let found = format!(in rt.alloc(); "{:?}", scenario.turns.as_slice())?;
+    assert_eq!(rt; found.as_str(), wanted, "{lines}");
+    Ok(())
+}
+
 #[test]
 fn turns(rt: HostRuntime) -> Result<(), Fail> {
-    let rows: [(usize, &str, &[u8]); 5] = [
-        (2, "", &[]),
-        (2, "turns = []", &[]),
-        (2, "turns = [1, 1, 2, 1]", &[1, 1, 2, 1]),
-        (1, "turns = [1]", &[1]),
-        (8, "turns = [8, 1, 0x7]", &[8, 1, 7]),
-    ];
-    for (count, lines, wanted) in rows {
-        let scenario = read_lanes(&rt, count, lines)?;
-        assert_eq!(rt; scenario.turns.as_slice(), wanted, "{lines}");
-    }
+    check_turns(&rt, 2, "", "[]")?;
+    check_turns(&rt, 2, "turns = []", "[]")?;
+    check_turns(&rt, 2, "turns = [1, 1, 2, 1]", "[1, 1, 2, 1]")?;
+    check_turns(&rt, 1, "turns = [1]", "[1]")?;
+    check_turns(&rt, 8, "turns = [8, 1, 0x7]", "[8, 1, 7]")?;
     let scenario = read_lanes(&rt, 2, "turns = [<4096:2,>]")?;
     assert_eq!(rt; scenario.turns.len(), 4096);
     Ok(())
@@ -95,11 +97,18 @@ fn traces(rt: HostRuntime) -> Result<(), Fail> {
     let two = "version = 1\ntrace = ['x 1 S 52 0 -', 'x 8 A B267c7 16384 =0a']";
     let lines = read_with(&rt, two)?.trace.expect(&rt, "a trace");
     assert_eq!(rt; lines.len(), 2);
-    let wanted: [(u8, u32, &[u8]); 2] = [(1, 0, &[0x52]), (8, 16384, &[0xb2, 0x67, 0xc7])];
-    for (line, (lane, wait, frame)) in lines.iter().zip(&wanted) {
-        assert_eq!(rt; (line.sent.lane, line.sent.wait), (*lane, *wait));
-        assert_eq!(rt; line.sent.frame.as_slice(), *frame);
+    let mut told = String::new(rt.alloc());
+    for line in &lines {
+        let sent = &line.sent;
+        let one = format!(in rt.alloc();
+            "{} {} {:?}\n",
+            sent.lane,
+            sent.wait,
+            sent.frame.as_slice()
+        )?;
+        told.push_str(one.as_str())?;
     }
+    assert_eq!(rt; told.as_str(), "1 0 [82]\n8 16384 [178, 103, 199]\n");
     Ok(())
 }
 
