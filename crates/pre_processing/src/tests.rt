@@ -1,123 +1,177 @@
-//! One Combination at a time, with what is found of it.
-ghost use Rattle.std.specs.Option.{ForSome};
-ghost use Rattle.ep_rules.specs.EntryPoint.Configuration.{IsAmount, IsCombination};
+//! A table of Combinations, each with what is found of it. The clauses say that the definition is met; these rows say what
+//! it gives.
+//!
+//! Each part of the table is one configuration. Its first line has the exponent of the currency and the amount, the next
+//! ones what a Combination says beside its name and kernel, and after `=>` what is found of it: whether it is allowed, a
+//! status check, a zero amount, the floor, the CVM, and the TTQ.
 
-use crate::{Indicators, prepare};
-use acquirer_config::{Combination, Config};
-use arrayvec::ArrayVec;
+use crate::{PreparedOne, prepare};
+use acquirer_config::Config;
+use std::alloc::AllocGlobal;
+use std::process::Abort;
 use std::test::Fail;
 
-/// The amount; the transaction limit, the floor limit and the CVM limit; whether a zero amount is allowed; the TTQ;
-/// the truths in their order; and the TTQ after Pre-Processing.
-type Row = (
-    u64,
-    [Option<u16>; 3],
-    Option<bool>,
-    [u8; 4],
-    [bool; 5],
-    [u8; 4],
-);
+const TABLE: &str = "\
+2 1000
+limit = 999 => 0 0 0 0 0 -
+limit = 1000 => 0 0 0 0 0 -
+limit = 1001 => 1 0 0 0 0 -
+floor = 999 => 1 0 0 1 0 -
+floor = 1000 => 1 0 0 0 0 -
+floor = 1001 => 1 0 0 0 0 -
+cvm = 999 => 1 0 0 0 1 -
+cvm = 1000 => 1 0 0 0 1 -
+cvm = 1001 => 1 0 0 0 0 -
+limit = 1000, floor = 999, cvm = 1000, ttq = '26004000' => 0 0 0 1 1 26c04000
+zero_allowed = false, ttq = '2e004000' => 1 0 0 0 0 2e004000
 
-const ROWS: [Row; 6] = [
-    (
-        1000,
-        [None, Some(1000), Some(1000)],
-        None,
-        [0x36, 0x00, 0x40, 0x00],
-        [false, false, false, false, true],
-        [0x36, 0x40, 0x40, 0x00],
-    ),
-    (
-        1000,
-        [Some(1000), None, None],
-        None,
-        [0x36, 0xc0, 0x40, 0x00],
-        [true, false, false, false, false],
-        [0x36, 0x00, 0x40, 0x00],
-    ),
-    (
-        1000,
-        [Some(1001), Some(999), None],
-        None,
-        [0x36, 0x00, 0x40, 0x00],
-        [false, false, false, true, false],
-        [0x36, 0x80, 0x40, 0x00],
-    ),
-    (
-        0,
-        [None; 3],
-        None,
-        [0x26, 0x00, 0x40, 0x00],
-        [false, false, true, false, false],
-        [0x26, 0x80, 0x40, 0x00],
-    ),
-    (
-        0,
-        [None; 3],
-        Some(false),
-        [0x26, 0x00, 0x40, 0x00],
-        [true, false, false, false, false],
-        [0x26, 0x00, 0x40, 0x00],
-    ),
-    (
-        0,
-        [None; 3],
-        None,
-        [0x2e, 0x00, 0x40, 0x00],
-        [true, false, true, false, false],
-        [0x2e, 0x00, 0x40, 0x00],
-    ),
-];
+2 1000
+terminal_floor = 999 => 1 0 0 1 0 -
+terminal_floor = 1000 => 1 0 0 0 0 -
+terminal_floor = 1001 => 1 0 0 0 0 -
+floor = 1000, terminal_floor = 999 => 1 0 0 0 0 -
+floor = 999, terminal_floor = 1000 => 1 0 0 1 0 -
+floor = 999, terminal_floor = 999 => 1 0 0 1 0 -
+ttq = '36004000' => 1 0 0 0 0 36004000
+ttq = '36c04000' => 1 0 0 0 0 36004000
+ttq = 'ffffffff' => 1 0 0 0 0 ff3fffff
+floor = 1000, cvm = 1000, ttq = '36004000' => 1 0 0 0 1 36404000
+floor = 999, cvm = 1001, ttq = '36404000' => 1 0 0 1 0 36804000
+floor = 999, ttq = '2e004000' => 1 0 0 1 0 2e804000
 
-fn amount(limit: Option<u16>) -> Option<u64>
-    ensures { ForSome result IsAmount }
-{
-    match limit {
-        Some(limit) => Some(u64::from(limit)),
-        None => None,
+2 0
+ttq = '26004000' => 1 0 1 0 0 26804000
+zero_allowed = false, ttq = '26004000' => 0 0 0 0 0 26004000
+ttq = '2e004000' => 0 0 1 0 0 2e004000
+
+2 0
+zero_allowed = true, ttq = '26004000' => 1 0 1 0 0 26804000
+zero_allowed = true, ttq = '2e004000' => 0 0 1 0 0 2e004000
+zero_allowed = false, ttq = '2e004000' => 0 0 0 0 0 2e004000
+status_check = true => 1 0 1 0 0 -
+zero_allowed = true => 1 0 1 0 0 -
+zero_allowed = false => 0 0 0 0 0 -
+limit = 0 => 0 0 1 0 0 -
+floor = 0 => 1 0 1 0 0 -
+cvm = 0, ttq = '26004000' => 1 0 1 0 1 26c04000
+cvm = 0, ttq = '2e004000' => 0 0 1 0 1 2e404000
+
+2 0
+zero_allowed = false => 0 0 0 0 0 -
+limit = 0 => 0 0 1 0 0 -
+
+0 0
+status_check = true, zero_allowed = false => 0 0 0 0 0 -
+
+0 1
+status_check = true, ttq = '26004000' => 1 1 0 0 0 26804000
+status_check = false, ttq = '26004000' => 1 0 0 0 0 26004000
+ttq = '26004000' => 1 0 0 0 0 26004000
+
+0 2
+status_check = true => 1 0 0 0 0 -
+
+1 9
+status_check = true => 1 0 0 0 0 -
+
+1 10
+status_check = true => 1 1 0 0 0 -
+status_check = false => 1 0 0 0 0 -
+
+1 11
+status_check = true => 1 0 0 0 0 -
+
+2 99
+status_check = true => 1 0 0 0 0 -
+
+2 100
+status_check = true, ttq = '2e004000' => 1 1 0 0 0 2e804000
+status_check = false, ttq = '2e004000' => 1 0 0 0 0 2e004000
+status_check = true, limit = 100 => 0 1 0 0 0 -
+
+2 101
+status_check = true => 1 0 0 0 0 -
+
+3 999
+status_check = true => 1 0 0 0 0 -
+
+3 1000
+status_check = true => 1 1 0 0 0 -
+status_check = false => 1 0 0 0 0 -
+
+3 1001
+status_check = true => 1 0 0 0 0 -
+
+4 9999
+status_check = true => 1 0 0 0 0 -
+
+4 10000
+status_check = true => 1 1 0 0 0 -
+status_check = false => 1 0 0 0 0 -
+
+4 10001
+status_check = true => 1 0 0 0 0 -";
+
+/// What is found of a Combination, as in the table.
+fn found_of(rt: &(impl Abort + AllocGlobal), one: &PreparedOne) -> Result<String, Fail> {
+    let truths = &one.indicators;
+    let mut found = format!(in rt.alloc();
+        "{} {} {} {} {} ",
+        u8::from(one.is_allowed()),
+        u8::from(truths.status),
+        u8::from(truths.zero),
+        u8::from(truths.floor),
+        u8::from(truths.cvm)
+    )?;
+    match one.ttq {
+        Some(ttq) => {
+            let ttq = format!(in rt.alloc(); "{:08x}\n", u32::from_be_bytes(ttq))?;
+            found.push_str(ttq.as_str())?;
+        }
+        None => found.push_str("-\n")?,
     }
+    Ok(found)
 }
 
-fn combination(limits: [Option<u16>; 3], zero_allowed: Option<bool>, ttq: [u8; 4]) -> Combination
-    ensures { IsCombination result }
-{
-    let [limit, floor, cvm] = limits;
-    Combination {
-        txn_type: 0,
-        aid: ArrayVec::try_from(b"\xa0\x00\x00\x00\x03\x10\x10".as_slice()).unwrap(),
-        kernel: 3,
-        status_check: false,
-        zero_allowed,
-        limit: amount(limit),
-        floor: amount(floor),
-        terminal_floor: None,
-        cvm: amount(cvm),
-        extended: false,
-        ttq: Some(ttq),
+/// A configuration has one Combination of another type before those of the table.
+fn check_part(rt: &(impl Abort + AllocGlobal), part: &str) -> Result<(), Fail> {
+    let alloc = rt.alloc();
+    let (head, rows) = part.split_once('\n').expect(rt, part);
+    let (exponent, amount) = head.split_once(' ').expect(rt, part);
+    let amount: u64 = amount.parse().ok().expect(rt, part);
+    let mut document = format!(in alloc;
+        "exponent = {exponent}\ncombinations = [{{type = 1, aid = 'a0000000031010', kernel = 3}},\n"
+    )?;
+    let mut wanted = String::new(alloc);
+    for row in rows.lines() {
+        let (keys, found) = row.split_once(" => ").expect(rt, row);
+        document.push_str("{type = 0, aid = 'a0000000031010', kernel = 3, ")?;
+        document.push_str(keys)?;
+        document.push_str("},\n")?;
+        wanted.push_str(found)?;
+        wanted.push_str("\n")?;
     }
+    document.push_str("]")?;
+    let table = toml::table_from_str(alloc, document.as_str())
+        .ok()
+        .expect(rt, part);
+    let config = Config::of_table(alloc, &table).ok().expect(rt, part);
+    let prepared = prepare(&config, 0, amount);
+    let mut found = String::new(alloc);
+    for one in prepared.list() {
+        found.push_str(found_of(rt, one)?.as_str())?;
+    }
+    assert_eq!(rt; found.as_str(), wanted.as_str(), "{part}");
+    let some_allowed = wanted.as_str().lines().any(|line| line.starts_with('1'));
+    assert_eq!(rt; prepared.any_allowed(), some_allowed, "{part}");
+    assert_eq!(rt; (prepared.txn_type(), prepared.amount()), (0, amount));
+    Ok(())
 }
 
 #[test]
 fn finds_of_each_combination(rt: HostRuntime) -> Result<(), Fail> {
-    for (amount, limits, zero_allowed, ttq, truths, wanted_ttq) in ROWS {
-        let mut list = Vec::new(rt.alloc());
-        list.push(combination(limits, zero_allowed, ttq))?;
-        let config = Config::of_list(2, list);
-        let prepared = prepare(&config, 0, amount);
-        assert_eq!(rt; prepared.list().len(), 1);
-        let one = prepared.list()[0].copy();
-        let [not_allowed, status, zero, floor, cvm] = truths;
-        let wanted = Indicators {
-            not_allowed,
-            status,
-            zero,
-            floor,
-            cvm,
-        };
-        assert_eq!(rt; one.indicators, wanted, "{amount}, {limits:?}");
-        assert_eq!(rt; one.ttq, Some(wanted_ttq), "{amount}, {limits:?}");
-        assert_eq!(rt; prepared.any_allowed(), !not_allowed);
-        assert_eq!(rt; (prepared.txn_type(), prepared.amount()), (0, amount));
+    for part in TABLE.split("\n\n") {
+        check_part(&rt, part)?;
     }
     Ok(())
 }
