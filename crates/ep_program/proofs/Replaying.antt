@@ -1,7 +1,6 @@
 -- The replay of an accepted document's lanes.
-use Rattle.std.proofs.Common.{◌≡◌, ◌≢◌, ℕ, List, [], ◌∷◌, map, All, refl, sym, ap, subst, ◌∙◌, Option, Some, None, Result, Ok, Err}
+use Rattle.std.proofs.Common.{◌≡◌, ◌≢◌, ℕ, List, [], ◌∷◌, map, refl, sym, ap, subst, ◌∙◌, Option, Some, None, Result, Ok, Err}
 use Rattle.std.specs.Prelude.{IfSome}
-use Rattle.std.proofs.lemmas.List.Elements.{All-nil, All-cons}
 use Rattle.std.specs.Io.KnownBytes.{Appends, Keeps}
 use Rattle.toml.specs.Data.{Members}
 use Rattle.doc_table.specs.Fault.{Fault}
@@ -11,7 +10,6 @@ use Rattle.ep_base.specs.Streams.Io.{AppendsPrefix}
 use Rattle.ep_claim.specs.Lanes.ReplayRun as traces
 use Rattle.ep_rules.specs.EntryPoint.Talk.{Talk}
 use Rattle.ep_claim.specs.Text.TraceLine.{TraceLine}
-use Rattle.lane_replay.specs.Replayed.{IsFirst}
 use Rattle.lane_replay.specs.Shows.{all_talks}
 use Rattle.ep_claim.specs.Lanes.WholeReplay.{ReplayEnds}
 use Rattle.lane_replay.proofs.Differing.{mismatches_differ_law}
@@ -28,13 +26,6 @@ use Rattle.ep_program.specs.declared.status.Status.TheVariants.{Done, ReadFault,
 -- ---- lanes before their first transactions
 
 module _ {V : Type 0} (items : V → List Work) where
-  first : (lanes : List V) → All IsFirst (map (λ lane. new_work (items lane)) lanes)
-  first [] = All-nil IsFirst
-  first (lane ∷ rest) = All-cons IsFirst (new_work (items lane)) (map (λ l. new_work (items l)) rest) refl (first rest)
-
-  pub works_are_first : (lanes : List V) (works : List LaneWork) → works ≡ map (λ lane. new_work (items lane)) lanes → All IsFirst works
-  works_are_first lanes works is = subst (All IsFirst) (sym is) (first lanes)
-
   talks : (settings : Config) (lanes : List V)
       → all_talks settings (map (λ lane. new_work (items lane)) lanes) ≡ map (λ lane. map (talk_in settings) lane) (map items lanes)
   talks settings [] = refl

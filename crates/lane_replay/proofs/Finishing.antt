@@ -1,18 +1,25 @@
--- From opened lanes and their turns to the replay's end.
-use Rattle.std.proofs.Common.{◌≡◌, ℕ, ◌+◌, Bool, true, false, List, ◌++◌, length, refl, sym, ap, subst, ◌∙◌, arith, Option, Some, None, is_some}
+-- From the end of a run against the trace to the replay's end.
+use Rattle.std.proofs.Common.{◌≡◌, ℕ, zero, suc, ◌+◌, ◌<◌, Bool, true, false, List, [], ◌∷◌, length, map, refl, sym, ap, subst, ◌∙◌, arith, Option, Some, None, is_some}
 use Rattle.std.proofs.lemmas.List.{length-map}
 use Rattle.ep_rules.specs.EntryPoint.Configuration.{Config}
-use Rattle.ep_base.specs.Streams.Io.{AppendsPrefix}
-use Rattle.ep_claim.specs.Lanes.ReplayRun.{Mismatch, Replaying, ends_unless, finishes, left_over, next_line}
 use Rattle.ep_rules.specs.EntryPoint.Talk.{Talk}
+use Rattle.ep_claim.specs.Lanes.LaneText.{Job}
+use Rattle.ep_claim.specs.Lanes.Order.{Order, next_turn}
+use Rattle.ep_claim.specs.Lanes.ReplayRun.{Mismatch, Replaying, begun_replay, ends_unless, finishes, left_over, next_line}
+use Rattle.ep_claim.specs.Lanes.WholeReplay.{ReplayEnds, Stops, cardless, mismatch_after, no_cards, replay_after, trace_probe, turn_unless, without_cards}
+use Rattle.ep_claim.specs.Lanes.WholeRun.{Run, is_live, run_step, takes_turn}
 use Rattle.ep_claim.specs.Text.TraceLine.{TraceLine}
-use Rattle.lane_jobs.proofs.Appending.{prefix_front, wrote_since}
-use Rattle.lane_replay.specs.Made.{EndCut, EndShown, TurnsCut, TurnsMade}
-use Rattle.lane_replay.specs.Replayed.{LanesOpened, Replayed, ReplayedPart}
-use Rattle.lane_replay.specs.Shows.{ReplayState, all_talks, talks_of}
-use Rattle.lane_replay.specs.Machine.{first_mismatch, LaneReplay, machine_after, opened_replay, replay_opening}
-use Rattle.lane_replay.proofs.Growing.{machine_grows, machine_stops}
-use Rattle.lane_replay.proofs.Running.{machine_is}
+use Rattle.ep_lanes.specs.Probing.{told}
+use Rattle.scenario.specs.Jobs.{job_of, talk_in}
+use Rattle.scenario.specs.Scenario.{Work}
+use Rattle.lane_jobs.specs.Works.{LaneWork, all_jobs}
+use Rattle.lane_jobs.proofs.Results.{is_none}
+use Rattle.lane_report.specs.Ends.{GoesNoFurther, RunEnds, state_then}
+use Rattle.lane_report.specs.Played.{all_played, played_job}
+use Rattle.lane_report.specs.Reports.{RunsPart, RunsTo}
+use Rattle.lane_report.specs.Shows.{ReportState}
+use Rattle.lane_replay.specs.Replayed.{Replayed, ReplayedPart}
+use Rattle.lane_replay.specs.Shows.{ReplayState, all_talks}
 
 -- The end holds a failure exactly where it isn't well.
 abbrev EndIs : Bool × Replaying → Type 0
@@ -36,57 +43,99 @@ ends_well s t b e is = subst (λ x. EndIs (x, t)) is (end_is s (b, t) e)
 pub ends_ill : (s t : Replaying) (b : Bool) → finishes s ≡ (b, t) → b ≡ false → is_some t.failure ≡ true
 ends_ill s t b e is = subst (λ x. EndIs (x, t)) is (end_is s (b, t) e)
 
-module _ (settings : Config) (fsdi : ℕ) (turns : List ℕ) (before opened : ReplayState) (size : length opened.works ≡ length before.works)
-    (begun : LanesOpened settings fsdi turns before opened) where
-  abbrev talks : List (List Talk)
-  talks = all_talks settings before.works
+-- What the lanes have to do, without cards, is what their talks are.
+no_card_jobs : (settings : Config) (jobs : List Work) → map (job_of settings) (map (played_job (λ _. no_cards)) jobs)
+    ≡ map without_cards (map (talk_in settings) jobs)
+no_card_jobs settings [] = refl
+no_card_jobs settings (w ∷ ws) = ap (λ js. without_cards (talk_in settings w) ∷ js) (no_card_jobs settings ws)
 
-  abbrev run : LaneReplay
-  run = opened_replay fsdi turns before.trace.lines talks
+pub no_card_lanes : (settings : Config) (works : List LaneWork) → all_jobs settings (all_played (λ _. no_cards) works) ≡ cardless (all_talks settings works)
+no_card_lanes settings [] = refl
+no_card_lanes settings (w ∷ ws) =
+    ap (λ js. js ∷ all_jobs settings (all_played (λ _. no_cards) ws)) (no_card_jobs settings w.left)
+    ∙ ap (λ ls. map without_cards (map (talk_in settings) w.left) ∷ ls) (no_card_lanes settings ws)
 
-  count_is : length opened.works ≡ length talks
-  count_is = size ∙ sym (length-map before.works (talks_of settings))
+-- Whose turn it isn't.
+unless_none : (f : Option Mismatch) (t : Option (ℕ × Order)) → t ≡ None → turn_unless f t ≡ None
+unless_none None t e = e
+unless_none (Some m) t e = refl
 
-  -- all turns were made, and the trace was ended
-  pub replay_whole : (after : ReplayState) (t : Replaying) (b : Bool) → TurnsMade settings fsdi opened after → finishes after.trace ≡ (b, t)
-      → (mismatch : Option Mismatch) → mismatch ≡ t.failure → Replayed settings fsdi turns before after.written mismatch
-  replay_whole after t b made ended mismatch is =
-      let end : EndShown fsdi (length talks) before.written after run =
-      subst (λ k. EndShown fsdi k before.written after run) count_is (made before.written run begun) in
-      let last = machine_after fsdi turns before.trace.lines talks end.exchanges in
-      let first : first_mismatch last ≡ t.failure =
-      ap (λ (s : Replaying). (finishes s).1.failure) (sym end.shows.trace) ∙ ap (λ (e : Bool × Replaying). e.1.failure) ended in (
-        last.text,
-        (machine_is fsdi turns before.trace.lines talks mismatch last.text
-            (record { exchanges = end.exchanges; stopped = end.stopped; mismatch_is = is ∙ sym first; text_is = refl })).0,
-        wrote_since before.written after.written last.text end.shows.text,
+unless_some : (f : Option Mismatch) (t : Option (ℕ × Order)) → is_some f ≡ true → turn_unless f t ≡ None
+unless_some None t e = let never : false ≡ true = e in cc
+unless_some (Some m) t e = refl
+
+-- A trace that has failed.
+abbrev pub has_failed : Replaying → Bool
+has_failed s = is_some s.failure
+
+module _ (fsdi count : ℕ) (run : Run Replaying) where
+  stays : next_turn (is_live run) count run.order ≡ None → run_step false trace_probe fsdi count run ≡ run
+  stays e = ap (λ t. takes_turn false trace_probe fsdi t run) e
+
+  stops : (over : Bool) → GoesNoFurther over has_failed false trace_probe fsdi count run → Stops fsdi count run
+  stops true e = unless_none (run_step false trace_probe fsdi count run).probe.failure (next_turn (is_live run) count run.order) e
+  stops false e = unless_some (run_step false trace_probe fsdi count run).probe.failure (next_turn (is_live run) count run.order) e.fails
+
+  last_state : (over : Bool) → GoesNoFurther over has_failed false trace_probe fsdi count run
+      → state_then over false trace_probe fsdi count run ≡ (run_step false trace_probe fsdi count run).probe
+  last_state true e = ap (λ (r : Run Replaying). r.probe) (sym (stays e))
+  last_state false e = refl
+
+module _ (fsdi : ℕ) (turns : List ℕ) (lines : List TraceLine) (talks : List (List Talk)) where
+  well_at : (n : ℕ) → ((k : ℕ) → k < n → has_failed (replay_after fsdi turns lines talks (k + 1)).probe ≡ false)
+      → (replay_after fsdi turns lines talks n).probe.failure ≡ None
+  well_at zero all = refl
+  well_at (suc k) all =
+      let next : k + 1 ≡ suc k = omega arith in
+      is_none (replay_after fsdi turns lines talks (suc k)).probe.failure
+      (subst (λ n. has_failed (replay_after fsdi turns lines talks n).probe ≡ false) next (all k (omega arith)))
+
+  pub replay_ends : (over : Bool) (text : List ℕ) (q : Replaying) (mismatch : Option Mismatch)
+      → RunEnds has_failed false trace_probe fsdi turns (begun_replay lines) (cardless talks) over text q
+      → mismatch ≡ (finishes q).1.failure → ReplayEnds fsdi turns lines talks mismatch text
+  replay_ends over text q mismatch e is =
+      let count : length (cardless talks) ≡ length talks = length-map talks (λ ts. map without_cards ts) in
+      let run = replay_after fsdi turns lines talks e.exchanges in
+      let state : q ≡ (run_step false trace_probe fsdi (length (cardless talks)) run).probe =
+      e.state_is ∙ last_state fsdi (length (cardless talks)) run over e.ends in
+      record {
+        exchanges = e.exchanges;
+        matched = well_at e.exchanges e.answered;
+        stopped = subst (λ k. Stops fsdi k run) count (stops fsdi (length (cardless talks)) run over e.ends);
+        mismatch_is =
+            is ∙ ap (λ (s : Replaying). (finishes s).1.failure) state ∙ ap (λ k. mismatch_after fsdi k run) count;
+        text_is = e.text_is;
+      }
+
+-- What was written, from what the run wrote.
+module _ (settings : Config) (fsdi : ℕ) (turns : List ℕ) (before : ReplayState) (begun : before.trace ≡ begun_replay before.trace.lines) where
+  abbrev pub run_before : ReportState Replaying
+  run_before = record { lanes = before.lanes; works = all_played (λ _. no_cards) before.works; probe = before.trace; written = before.written }
+
+  of_run : (over : Bool) (text : List ℕ) (q : Replaying)
+      → RunEnds has_failed false trace_probe fsdi turns before.trace (all_jobs settings (all_played (λ _. no_cards) before.works)) over text q
+      → RunEnds has_failed false trace_probe fsdi turns (begun_replay before.trace.lines) (cardless (all_talks settings before.works)) over text q
+  of_run over text q e =
+      subst (λ ls. RunEnds has_failed false trace_probe fsdi turns (begun_replay before.trace.lines) ls over text q) (no_card_lanes settings before.works)
+      (subst (λ p. RunEnds has_failed false trace_probe fsdi turns p (all_jobs settings (all_played (λ _. no_cards) before.works)) over text q) begun e)
+
+  pub replayed : (over : Bool) (after : ReportState Replaying) (mismatch : Option Mismatch)
+      → RunsTo (told trace_probe) has_failed settings false fsdi turns run_before after over
+      → mismatch ≡ (finishes after.probe).1.failure → Replayed settings fsdi turns before after.written mismatch
+  replayed over after mismatch runs is =
+      let r = runs trace_probe (λ p lane ask given heard q e. e) in (
+        r.0,
+        replay_ends fsdi turns before.trace.lines (all_talks settings before.works) over r.0 after.probe mismatch
+            (of_run over r.0 after.probe r.1) is,
+        r.2,
       )
 
-  -- they were cut short
-  pub replay_part : (written : Option (List ℕ)) → TurnsCut settings fsdi opened written → ReplayedPart settings fsdi turns before written
-  replay_part written cut =
-      let end : EndCut fsdi (length talks) before.written written run =
-      subst (λ k. EndCut fsdi k before.written written run) count_is (cut before.written run begun) in
-      let last = machine_after fsdi turns before.trace.lines talks end.exchanges in
-      let ends =
-      machine_is fsdi turns before.trace.lines talks (first_mismatch last) last.text
-      (record { exchanges = end.exchanges; stopped = end.stopped; mismatch_is = refl; text_is = refl }) in
-      (first_mismatch last, last.text, ends.0, end.part)
-
--- Where the lanes weren't all opened.
-pub replay_unopened : (settings : Config) (fsdi : ℕ) (turns : List ℕ) (before : ReplayState) (written : Option (List ℕ))
-    → AppendsPrefix before.written written (replay_opening fsdi 1 (all_talks settings before.works)) → ReplayedPart settings fsdi turns before written
-replay_unopened settings fsdi turns before written part =
-    let lines = before.trace.lines in
-    let talks = all_talks settings before.works in
-    let many = length lines + 1 in
-    let grows = machine_grows fsdi turns lines talks many in
-    let last = machine_after fsdi turns lines talks many in
-    let ends =
-    machine_is fsdi turns lines talks (first_mismatch last) last.text
-    (record { exchanges = many; stopped = machine_stops fsdi turns lines talks; mismatch_is = refl; text_is = refl }) in (
-      first_mismatch last,
-      last.text,
-      ends.0,
-      subst (λ t. AppendsPrefix before.written written t) (sym grows.1) (prefix_front before.written written (replay_opening fsdi 1 talks) grows.0 part),
-    )
+  pub replayed_part : (written : Option (List ℕ)) → RunsPart (told trace_probe) has_failed settings false fsdi turns run_before written
+      → ReplayedPart settings fsdi turns before written
+  replayed_part written runs =
+      let r = runs trace_probe (λ p lane ask given heard q e. e) in (
+        (finishes r.2).1.failure,
+        r.1,
+        replay_ends fsdi turns before.trace.lines (all_talks settings before.works) r.0 r.1 r.2 (finishes r.2).1.failure (of_run r.0 r.1 r.2 r.3) refl,
+        r.4,
+      )

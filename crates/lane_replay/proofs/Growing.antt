@@ -4,10 +4,9 @@ use Rattle.std.proofs.lemmas.List.{append-nil}
 use Rattle.ep_rules.specs.EntryPoint.Talk.{Talk}
 use Rattle.ep_claim.specs.Text.TraceLine.{TraceLine}
 use Rattle.ep_claim.specs.Lanes.Steps.{times}
-use Rattle.lane_replay.specs.Machine.{HasStopped, LaneReplay, machine_after, opened_replay, replay_hears, replay_opening, replay_step}
-use Rattle.lane_replay.specs.Turned.{lines_left}
+use Rattle.lane_replay.specs.Machine.{HasStopped, LaneReplay, machine_after, opened_replay, replay_hears, replay_opening, replay_step, lines_left}
 use Rattle.lane_replay.specs.Waiting.{heard_piece}
-use Rattle.lane_replay.proofs.Answering.{answer_of}
+use Rattle.lane_replay.proofs.Comparing.{answer_of}
 use Rattle.lane_replay.proofs.Stepping.{by_step, failed_stopped, stopped_same}
 
 module _ (fsdi count : ℕ) where

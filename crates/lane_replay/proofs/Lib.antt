@@ -1,14 +1,10 @@
-pub mod Answering
-pub mod Beginning
+pub mod Blank
+pub mod Comparing
 pub mod Differing
 pub mod Finishing
-pub mod Going
 pub mod Growing
-pub mod Hearing
-pub mod Making
 pub mod Matching
-pub mod Opened
 pub mod Running
 pub mod Stepping
 pub mod Stopping
-pub mod Turns
+pub mod Tracing

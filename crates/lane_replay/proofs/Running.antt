@@ -19,46 +19,12 @@ use Rattle.ep_claim.specs.Lanes.Steps.{times}
 use Rattle.ep_claim.specs.Lanes.WholeReplay.{ReplayEnds, Stops, cardless, compared_at, mismatch_after, no_cards, replay_after, trace_probe, turn_unless, without_cards}
 use Rattle.ep_claim.specs.Lanes.WholeRun.{Run, hears, is_live, makes_exchange, opened_run, opening_lanes, opening_text, run_step, takes_turn, turn_of, with_lane}
 use Rattle.ep_lanes.proofs.Ordering.{same_turn}
-use Rattle.lane_replay.specs.Machine.{HasStopped, LaneReplay, MachineEnds, first_mismatch, is_waiting, machine_after, opened_replay, replay_hears, replay_lanes, replay_opening, replay_step, turn_in}
-use Rattle.lane_replay.specs.Turned.{lines_left}
+use Rattle.lane_replay.specs.Machine.{HasStopped, LaneReplay, MachineEnds, first_mismatch, is_waiting, machine_after, opened_replay, replay_hears, replay_lanes, replay_opening, replay_step, turn_in, lines_left}
 use Rattle.lane_replay.specs.Waiting.{ReplayPiece, Waiting, heard_piece, replay_goes_on, replay_opens, replay_opens_by}
-use Rattle.lane_replay.proofs.Answering.{answer_of}
+use Rattle.lane_replay.specs.Blank.{IsBlank}
+use Rattle.lane_replay.proofs.Comparing.{answer_of}
+use Rattle.lane_replay.proofs.Blank.{blank_after}
 use Rattle.lane_replay.proofs.Stepping.{by_step, failed_stopped, stopped_same, turn_well}
-
--- ---- a field without cards
-
--- it has no card, and executed nothing
-record Blank (f : Field) : Type 0 where
-  pub cards : f.cards ≡ []
-  pub log : f.log ≡ []
-
-blank_reset : (f : Field) → Blank f → Blank (field_reset f)
-blank_reset f b = record { cards = ap (λ (ps : List Placed). all_reset f.air.gone f.presence 1 ps) b.cards; log = b.log }
-
--- what no card hears
-taken : (f : Field) (wave : Wave) → Blank f → (bytes : Option (List ℕ)) → ((all_take f wave bytes).cards ≡ []) × ((all_take f wave bytes).log ≡ [])
-taken f wave b None = (b.cards, b.log)
-taken f wave b (Some bytes) =
-    let none : all_hear f.room wave bytes f.log f.cards ≡ record { cards = []; log = f.log; answers = [] } =
-    ap (λ (ps : List Placed). all_hear f.room wave bytes f.log ps) b.cards in
-    (ap (λ (h : CardsHeard). h.cards) none, ap (λ (h : CardsHeard). h.log) none ∙ b.log)
-
-left_none : (ps : List Placed) → ps ≡ [] → (gone : Bool) → (if gone then left_by ps else ps) ≡ []
-left_none ps none true = ap left_by none
-left_none ps none false = none
-
-blank_send : (f : Field) (wave : Wave) (bytes : List ℕ) → Blank f → Blank (field_send f wave bytes).1
-blank_send f wave bytes b =
-    let h = taken f wave b (comes_down (next_fate f.air.fates).down wave bytes) in
-    record { cards = left_none (field_hears f wave bytes).cards h.0 (away (next_fate f.air.fates)); log = h.1 }
-
-blank_by : (f : Field) (reset : Bool) → Blank f → Blank (if reset then field_reset f else f)
-blank_by f true b = blank_reset f b
-blank_by f false b = b
-
--- it stays so with each exchange
-blank_after : (ask : Ask) (f : Field) → Blank f → Blank (field_answers ask f).1
-blank_after ask f b = blank_send (if ask.reset then field_reset f else f) ask.wave ask.bytes (blank_by f ask.reset b)
 
 -- ---- a lane
 
@@ -76,7 +42,7 @@ record Goes (fsdi : ℕ) (o : Option Going) (w : Waiting) : Type 0 where
   pub exchanges : List Exchange
   pub is : o ≡ Some (goes w field exchanges)
   pub asks : asked_by fsdi w.standing.doing ≡ Some w.asks
-  pub blank : Blank field
+  pub blank : IsBlank field
 
 -- the two lanes are the same
 abbrev Tied : ℕ → Option Going → Option Waiting → Type 0
@@ -111,7 +77,7 @@ module _ (fsdi lane : ℕ) where
       (asked_by fsdi (started talk).doing) refl
 
   module _ (w : Waiting) (f : Field) (exchanges : List Exchange) where
-    goes_on_same : (s : Standing) (g : Field) (more : List Exchange) → Blank g → (a : Option Ask) → asked_by fsdi s.doing ≡ a
+    goes_on_same : (s : Standing) (g : Field) (more : List Exchange) → IsBlank g → (a : Option Ask) → asked_by fsdi s.doing ≡ a
         → SamePiece fsdi (goes_on fsdi lane (goes w f exchanges) (record { standing = s; field = g; exchanges = more }) a) (replay_goes_on fsdi lane w s a)
     goes_on_same s g more b (Some ask) e =
         record { text = refl; going = record { field = g; exchanges = more; is = refl; asks = e; blank = b } }
@@ -120,7 +86,7 @@ module _ (fsdi lane : ℕ) where
         record { text = ap (λ log. log_lines lane w.txn log ++ (opens fsdi lane (w.txn + 1) (map without_cards w.left)).text) b.log ∙ next.text; going = next.going }
 
     -- an exchange in which this was heard
-    piece_same : (heard : Heard) (g : Field) (more : List Exchange) → Blank g
+    piece_same : (heard : Heard) (g : Field) (more : List Exchange) → IsBlank g
         → SamePiece fsdi (piece_of fsdi lane (goes w f exchanges) (record { standing = after_hearing fsdi w.talk heard w.standing; field = g; exchanges = more }))
         (heard_piece fsdi lane w heard)
     piece_same heard g more b =

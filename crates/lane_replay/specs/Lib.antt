@@ -1,9 +1,8 @@
+pub mod Blank
 pub mod Ends
 pub mod Machine
-pub mod Made
 pub mod OwnTrace
 pub mod Replayed
 pub mod Shows
 pub mod Stopping
-pub mod Turned
 pub mod Waiting

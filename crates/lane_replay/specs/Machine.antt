@@ -1,5 +1,5 @@
 -- A replay of lanes step by step, as its code goes: it stops with the exchange at which the trace fails (this project's own form).
-use Rattle.std.specs.Prelude.{◌≡◌, ℕ, ◌+◌, ◌==◌, Bool, if◌then◌else◌, List, [], ◌∷◌, ◌++◌, length, Option, Some, None, is_some}
+use Rattle.std.specs.Prelude.{◌≡◌, ℕ, ◌+◌, ◌-◌, ◌==◌, Bool, if◌then◌else◌, List, [], ◌∷◌, ◌++◌, length, Option, Some, None, is_some}
 use Rattle.ep_base.specs.Air.Heard.{Heard}
 use Rattle.ep_rules.specs.EntryPoint.Talk.{Talk}
 use Rattle.ep_claim.specs.Text.TraceLine.{TraceLine}
@@ -69,6 +69,10 @@ replay_opening fsdi lane (talks ∷ rest) = (replay_opens fsdi lane 1 talks).tex
 abbrev pub replay_lanes : (fsdi lane : ℕ) → List (List Talk) → ℕ → Option Waiting
 replay_lanes fsdi lane [] k = None
 replay_lanes fsdi lane (talks ∷ rest) k = if k == lane then (replay_opens fsdi lane 1 talks).waiting else replay_lanes fsdi (lane + 1) rest k
+
+-- How many lines of a trace weren't taken (this project's own).
+abbrev pub lines_left : Replaying → ℕ
+lines_left s = length s.lines - s.taken
 
 -- A replay of these trace lines whose lanes were just opened (this project's own).
 abbrev pub opened_replay : ℕ → List ℕ → List TraceLine → List (List Talk) → LaneReplay

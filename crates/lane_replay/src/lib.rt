@@ -2,11 +2,10 @@
 //! trace line, and where they are the same the lane hears what that line says (this project's own).
 #![tactic(auto)]
 
+mod answering;
 mod ending;
 mod laws;
-mod opening;
 mod run;
-mod turning;
 
 pub use ending::ReplayEnd;
 pub use laws::{

@@ -1,14 +1,15 @@
 //! Whole replays of a purchase with a card that has no directory: what no clause says is their text and their lines.
-ghost use Rattle.std.specs.Prelude.{◌≤◌, All, IfOk, length};
-ghost use Rattle.ep_base.specs.declared.limits.TheConstants.{LANES};
-ghost use Rattle.lane_replay.specs.Replayed.{IsFirst};
+ghost use Rattle.std.specs.Prelude.{◌≤◌, All, IfOk, length, map};
+ghost use Rattle.ep_base.specs.declared.limits.TheConstants.{LANES, TRANSACTIONS};
+ghost use Rattle.lane_jobs.specs.Works.{new_work};
+ghost use Rattle.lane_report.specs.Reports.{IsNewWork};
 
 use super::*;
 use acquirer_config::Config;
-use ep_base::{Line, MemorySink, TRANSACTIONS};
+use ep_base::{Line, MemorySink};
 use ep_lanes::Lanes;
-use lane_jobs::LaneJobs;
-use scenario::{Job, Scenario};
+use lane_jobs::{LaneJobs, works_of};
+use scenario::Scenario;
 use std::test::Fail;
 use trace_io::{Replay, TraceLine, mismatch_text, read_trace_line};
 
@@ -216,17 +217,6 @@ fn trace(rt: &HostRuntime, text: &str) -> Result<Vec<TraceLine>, Fail> {
     Ok(lines)
 }
 
-/// The transactions of the last lane that wasn't taken.
-fn last_lane(lanes: &mut Vec<Vec<Job>>) -> Result<LaneJobs, Fail>
-    ensures { IfOk result IsFirst }
-{
-    let jobs = lanes.pop().ok_or("no lane")?;
-    if jobs.len() > TRANSACTIONS {
-        return Err(Fail::from("too many transactions"));
-    }
-    Ok(LaneJobs::of(jobs))
-}
-
 /// What is said of how a replay ended.
 fn said_of(end: &Result<(), ReplayEnd>) -> Line {
     let mut said = Line::new();
@@ -246,7 +236,7 @@ fn check_lanes(
     case: &Case,
 ) -> Result<(), Fail>
     requires few { length works.old ≤ LANES }
-    requires first { All IsFirst works.old }
+    requires new { All (IsNewWork config.now) works.old }
 {
     let Ok(mut lanes) = Lanes::open(rt.alloc(), works.len() as u8, Vec::new(rt.alloc())) else {
         return Err(Fail::from("memory"));
@@ -266,17 +256,31 @@ fn check_lanes(
     Err(Fail::from(other))
 }
 
+/// The scenario of a document's text.
+fn scenario_in(rt: &HostRuntime, text: &str) -> Result<Scenario, Fail>
+    ensures few { IfOk result (λ s. length s.lanes ≤ LANES) }
+    ensures short { IfOk result (λ s. All (λ lane. length lane ≤ TRANSACTIONS) s.lanes) }
+    ensures new { IfOk result (λ s. All (IsNewWork s.config) (map new_work s.lanes)) }
+{
+    let Ok(scenario) = Scenario::of_bytes(rt.alloc(), text.as_bytes()) else {
+        return Err(Fail::from("not a document"));
+    };
+    Ok(scenario)
+}
+
 fn check_case(rt: &HostRuntime, case: &Case) -> Result<(), Fail> {
     let text = case.document.concat(rt.alloc())?;
-    let Ok(mut scenario) = Scenario::of_bytes(rt.alloc(), text.as_bytes()) else {
+    let Scenario {
+        config,
+        fsdi: _,
+        turns: _,
+        lanes,
+        trace: _,
+    } = scenario_in(rt, text.as_str())?;
+    let Ok(mut works) = works_of(rt.alloc(), lanes) else {
         return Err(Fail::from(case.name));
     };
-    let last = last_lane(&mut scenario.lanes)?;
-    if scenario.lanes.is_empty() {
-        return check_lanes(rt, &scenario.config, &mut [last], case);
-    }
-    let first = last_lane(&mut scenario.lanes)?;
-    check_lanes(rt, &scenario.config, &mut [first, last], case)
+    check_lanes(rt, &config, &mut works, case)
 }
 
 #[test]

@@ -4,6 +4,7 @@ use Rattle.std.specs.Prelude.{Option, Some, None, is_some}
 use Rattle.std.proofs.lemmas.List.{append-nil}
 use Rattle.ep_rules.specs.EntryPoint.Configuration.{Config}
 use Rattle.ep_base.specs.Air.Heard.{Ask}
+use Rattle.ep_base.specs.Cards.Field.{Field}
 use Rattle.ep_rules.specs.EntryPoint.Kernel.{Scripted}
 use Rattle.ep_rules.specs.EntryPoint.PreProcessing.{prepared}
 use Rattle.ep_rules.specs.EntryPoint.Event.{Event as EventData}
@@ -91,14 +92,14 @@ module _ (settings : Config) (fsdi lane : ℕ) where
         ap (λ (p : Piece). p.text) next_is
         ∙ opens_split lane taken.txn (job_of settings w) (jobs_of settings taken) (here taken) (asked_first fsdi (job_of settings w))
 
-    module _ (held : LaneHeld Scripted) (begun : LaneWork) where
-      same_rest : BegunLane settings fsdi w held taken begun false → here taken ≡ here begun
+    module _ (plays : Option Field → Field → Type 0) (held : LaneHeld Scripted) (begun : LaneWork) where
+      same_rest : BegunLane plays settings fsdi w held taken begun false → here taken ≡ here begun
       same_rest b =
           ap (λ ws. opens fsdi lane (taken.txn + 1) (map (job_of settings) ws)) (sym b.left)
           ∙ ap (λ n. opens fsdi lane (n + 1) (jobs_of settings begun)) (sym b.number)
 
       -- one that asks nothing is passed over
-      pub text_passed : BegunLane settings fsdi w held taken begun false
+      pub text_passed : BegunLane plays settings fsdi w held taken begun false
           → (here work).text ≡ begun_text lane taken.txn (job_of settings w) (asked_first fsdi (job_of settings w)) ++ (here begun).text
       text_passed b =
           text_split
@@ -106,38 +107,38 @@ module _ (settings : Config) (fsdi lane : ℕ) where
           (more_passed lane taken.txn (job_of settings w) (here taken) (asked_first fsdi (job_of settings w)) b.asked
           ∙ ap (λ (p : Piece). p.text) (same_rest b))
 
-      pub going_after : BegunLane settings fsdi w held taken begun false → (here work).going ≡ (here begun).going
+      pub going_after : BegunLane plays settings fsdi w held taken begun false → (here work).going ≡ (here begun).going
       going_after b =
           ap (λ (p : Piece). p.going) next_is
           ∙ going_passed lane taken.txn (job_of settings w) (jobs_of settings taken) (here taken) (asked_first fsdi (job_of settings w)) b.asked
           ∙ ap (λ (p : Piece). p.going) (same_rest b)
 
       -- one that asks something is where the lane stands
-      pub text_begun : BegunLane settings fsdi w held taken begun true
+      pub text_begun : BegunLane plays settings fsdi w held taken begun true
           → (here work).text ≡ begun_text lane taken.txn (job_of settings w) (asked_first fsdi (job_of settings w)) ++ []
       text_begun b =
           text_split
           ∙ ap (λ l. begun_text lane taken.txn (job_of settings w) (asked_first fsdi (job_of settings w)) ++ l)
           (more_none lane taken.txn (job_of settings w) (here taken) (asked_first fsdi (job_of settings w)) b.asked)
 
-      shows_by : BegunLane settings fsdi w held taken begun true → held.live ≡ true → (o : Option Ask) → true ≡ is_some o
-          → ShowsLane settings fsdi held begun (opens_by lane taken.txn (job_of settings w) (jobs_of settings taken) (here taken) o).going
+      shows_by : BegunLane plays settings fsdi w held taken begun true → held.live ≡ true → (o : Option Ask) → true ≡ is_some o
+          → ShowsLane plays settings fsdi held begun (opens_by lane taken.txn (job_of settings w) (jobs_of settings taken) (here taken) o).going
       shows_by b live (Some ask) e = record {
         live = live;
         opened = b.opened;
         stands = b.stands;
-        field = b.field;
+        field = b.field.1;
         number = b.number;
         left = ap (λ ws. map (job_of settings) ws) b.left;
       }
       shows_by b live None e = let never : true ≡ false = e in cc
 
-      pub shows_begun : BegunLane settings fsdi w held taken begun true → held.live ≡ true → ShowsLane settings fsdi held begun (here work).going
+      pub shows_begun : BegunLane plays settings fsdi w held taken begun true → held.live ≡ true → ShowsLane plays settings fsdi held begun (here work).going
       shows_begun b live =
-          subst (λ (p : Piece). ShowsLane settings fsdi held begun p.going) (sym next_is) (shows_by b live (asked_first fsdi (job_of settings w)) b.asked)
+          subst (λ (p : Piece). ShowsLane plays settings fsdi held begun p.going) (sym next_is) (shows_by b live (asked_first fsdi (job_of settings w)) b.asked)
 
-      pub fits_begun : BegunLane settings fsdi w held taken begun true → held.live ≡ true → FitsLane held begun
-      fits_begun b live = record { opened = b.opened ∙ sym live; field = ap is_some b.field ∙ sym live }
+      pub fits_begun : BegunLane plays settings fsdi w held taken begun true → held.live ≡ true → FitsLane held begun
+      fits_begun b live = record { opened = b.opened ∙ sym live; field = b.field.0 ∙ sym live }
 
   -- none is left
   pub nothing_here : (work : LaneWork) → work.left ≡ [] → here work ≡ record { text = []; going = None }

@@ -42,14 +42,14 @@ by_reset true ask f t h e =
 answers_so : (ask : Ask) (f t : Field) (h : Heard) → Exchanges (told field) f ask (Some h) t → field_answers ask f ≡ (Some h, t)
 answers_so ask f t h e = by_reset ask.reset ask f t h e
 
-module _ {P : Type 0} (answers : ProbeAnswers P) (settings : Config) (traced : Bool) (fsdi lane : ℕ) (before after : Held Scripted) (p q : P)
+module _ {P : Type 0} (answers : ProbeAnswers P) (plays : Option Field → Field → Type 0) (settings : Config) (traced : Bool) (fsdi lane : ℕ) (before after : Held Scripted) (p q : P)
     (turned : Turned) (said : List EventData) (work heard_work : LaneWork)
-    (turn : (f : Field) → work.field ≡ Some f → HeardTurn answers lane before f p turned said after heard_work.field q)
+    (turn : (f : Field) → plays work.field f → HeardTurn answers plays lane before f p turned said after heard_work.field q)
     (left : heard_work.left ≡ work.left) (number : heard_work.txn ≡ work.txn) (m : Made) (last : Some m ≡ after.last) (n : ℕ)
     (written_as : n ≡ heard_work.txn)
-    (steps : ProbeSteps P) (tells : Tells answers steps) (g : Going) (shows : ShowsGoing settings fsdi (lane_of before lane) work g)
+    (steps : ProbeSteps P) (tells : Tells answers steps) (g : Going) (shows : ShowsGoing plays settings fsdi (lane_of before lane) work g)
     (ask : Ask) (asked : asked_by fsdi g.lane.standing.doing ≡ Some ask) where
-  this : HeardTurn answers lane before g.lane.field p turned said after heard_work.field q
+  this : HeardTurn answers plays lane before g.lane.field p turned said after heard_work.field q
   this = turn g.lane.field shows.field
 
   made_is : m ≡ this.turns.made
@@ -88,11 +88,11 @@ module _ {P : Type 0} (answers : ProbeAnswers P) (settings : Config) (traced : B
   abbrev pub then_lane : Lane
   then_lane = heard_lane fsdi g.talk ask m.heard (field_answers ask g.lane.field).1 g.lane
 
-  pub is_after : IsAfter settings fsdi (lane_of after lane) heard_work turned g then_lane
+  pub is_after : IsAfter plays settings fsdi (lane_of after lane) heard_work turned g then_lane
   is_after = record {
     stands = makes.stands g.talk fsdi g.lane.standing shows.stands;
     tells = makes.tells g.talk fsdi g.lane.standing shows.stands;
-    field = this.left_is ∙ ap Some (sym (ap (λ (a : Option Heard × Field). a.1) answer));
+    field = subst (λ f. plays heard_work.field f) (sym (ap (λ (a : Option Heard × Field). a.1) answer)) this.left_is;
     number = number ∙ shows.number;
     left = ap (λ ws. map (job_of settings) ws) left ∙ shows.left;
   }
@@ -122,12 +122,12 @@ module _ {P : Type 0} (answers : ProbeAnswers P) (settings : Config) (traced : B
       sym (append_assoc (trace_part traced lane ask m.heard) (event_lines lane g.txn (added_events g.talk g.lane.standing then_lane.standing)) more.text)
       ∙ ap (λ l. l ++ more.text) (sym front_is)
 
-  pub turn_wrote : (held : LaneHeld Scripted) (next : LaneWork) (a b w : Option (List ℕ)) → Appends a b front → Wrote settings fsdi held next b w more
-      → TurnWrote settings traced steps fsdi lane (record { held = lane_of before lane; work = work; probe = p; written = a })
+  pub turn_wrote : (held : LaneHeld Scripted) (next : LaneWork) (a b w : Option (List ℕ)) → Appends a b front → Wrote plays settings fsdi held next b w more
+      → TurnWrote plays settings traced steps fsdi lane (record { held = lane_of before lane; work = work; probe = p; written = a })
       (record { held = held; work = next; probe = q; written = w }) g ask
   turn_wrote held next a b w wrote rest = record {
     wrote =
-        subst (λ (h : Heard). Wrote settings fsdi held next a w (turn_piece traced fsdi lane g ask h)) (sym heard_is)
+        subst (λ (h : Heard). Wrote plays settings fsdi held next a w (turn_piece traced fsdi lane g ask h)) (sym heard_is)
         (record { text = whole_next a b front more.text _ whole_is wrote w rest.text; shows = rest.shows });
     probe = sym (ap (λ (r : P × Heard). r.0) heard_so);
   }
@@ -151,9 +151,9 @@ module _ {P : Type 0} (answers : ProbeAnswers P) (settings : Config) (traced : B
   }
 
 -- An exchange that had no answer.
-module _ {P : Type 0} (answers : ProbeAnswers P) (settings : Config) (fsdi lane : ℕ) (before : LaneHeld Scripted) (work : LaneWork) (p q : P)
-    (turn : (f : Field) → work.field ≡ Some f → UnheardTurn answers lane before f p q)
-    (steps : ProbeSteps P) (tells : Tells answers steps) (g : Going) (shows : ShowsGoing settings fsdi before work g)
+module _ {P : Type 0} (answers : ProbeAnswers P) (plays : Option Field → Field → Type 0) (settings : Config) (fsdi lane : ℕ) (before : LaneHeld Scripted) (work : LaneWork) (p q : P)
+    (turn : (f : Field) → plays work.field f → UnheardTurn answers lane before f p q)
+    (steps : ProbeSteps P) (tells : Tells answers steps) (g : Going) (shows : ShowsGoing plays settings fsdi before work g)
     (ask : Ask) (asked : asked_by fsdi g.lane.standing.doing ≡ Some ask) where
   unheard : UnheardTurn answers lane before g.lane.field p q
   unheard = turn g.lane.field shows.field

@@ -4,6 +4,7 @@ pub mod Ending
 pub mod Few
 pub mod Hearing
 pub mod Opened
+pub mod Playing
 pub mod Reporting
 pub mod Running
 pub mod Steps

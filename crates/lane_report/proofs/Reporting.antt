@@ -2,6 +2,7 @@
 use Rattle.std.proofs.Common.{◌≡◌, ℕ, ◌≤◌, Bool, true, false, List, length, All, Option, refl, sym, ◌∙◌, arith}
 use Rattle.ep_rules.specs.EntryPoint.Configuration.{Config}
 use Rattle.ep_base.specs.declared.limits.TheConstants.{LANES}
+use Rattle.ep_base.specs.Cards.Field.{Field}
 use Rattle.ep_base.specs.Streams.Io.{AppendsPrefix}
 use Rattle.ep_rules.specs.EntryPoint.Kernel.{Scripted}
 use Rattle.ep_lanes.specs.Lanes.{Held}
@@ -21,15 +22,15 @@ use Rattle.lane_report.proofs.Few.{all_short, all_count}
 abbrev pub state_of : {P : Type 0} → P → Held Scripted → List LaneWork → Option (List ℕ) → ReportState P
 state_of p lanes works written = record { lanes = lanes; works = works; probe = p; written = written }
 
-module _ {P : Type 0} (answers : ProbeAnswers P) (failed : P → Bool) (settings : Config) (traced : Bool) (fsdi : ℕ) (turns : List ℕ) (p : P)
+module _ {P : Type 0} (answers : ProbeAnswers P) (failed : P → Bool) (plays : Option Field → Field → Type 0) (settings : Config) (traced : Bool) (fsdi : ℕ) (turns : List ℕ) (p : P)
     (lanes : Held Scripted) (works : List LaneWork) (written : Option (List ℕ)) (few : length works ≤ LANES) (new : All (IsNewWork settings) works) where
   abbrev jobs : List (List Job)
   jobs = all_jobs settings works
 
   -- the run whose lanes were opened
   module _ (held : Held Scripted) (left : List LaneWork) (said : Option (List ℕ)) (size : length left ≡ length works)
-      (opened : LanesOpened settings fsdi turns (state_of (tt {0}) lanes works written) (state_of (tt {0}) held left said)) where
-    abbrev begun : (steps : ProbeSteps P) → Tells answers steps → ShownRun answers settings fsdi (state_of p held left said)
+      (opened : LanesOpened plays settings fsdi turns (state_of (tt {0}) lanes works written) (state_of (tt {0}) held left said)) where
+    abbrev begun : (steps : ProbeSteps P) → Tells answers steps → ShownRun answers plays settings fsdi (state_of p held left said)
     begun steps tells = record {
       steps = steps;
       tells = tells;
@@ -42,7 +43,7 @@ module _ {P : Type 0} (answers : ProbeAnswers P) (failed : P → Bool) (settings
       shows = record { each = opened.each; order = opened.order; probe = refl; text = opened.text };
     }
 
-    pub run_whole : (after : ReportState P) (over : Bool) → TurnsMade answers failed settings traced fsdi (state_of p held left said) after over
+    pub run_whole : (after : ReportState P) (over : Bool) → TurnsMade answers failed plays settings traced fsdi (state_of p held left said) after over
         → RunsTo answers failed settings traced fsdi turns (state_of p lanes works written) after over
     run_whole after over made = λ steps tells.
         let e = made (begun steps tells) in
@@ -52,7 +53,7 @@ module _ {P : Type 0} (answers : ProbeAnswers P) (failed : P → Bool) (settings
           wrote_since written after.written run.text e.text,
         )
 
-    pub run_part : (now : Option (List ℕ)) → TurnsCut answers failed settings traced fsdi (state_of p held left said) now
+    pub run_part : (now : Option (List ℕ)) → TurnsCut answers failed plays settings traced fsdi (state_of p held left said) now
         → RunsPart answers failed settings traced fsdi turns (state_of p lanes works written) now
     run_part now cut = λ steps tells.
         let e = cut (begun steps tells) in

@@ -4,6 +4,7 @@ use Rattle.std.specs.Prelude.{Option, Some, None, is_some, if◌then◌else◌}
 use Rattle.std.proofs.lemmas.Bool.Decides.{eqb_tells}
 use Rattle.ep_rules.specs.EntryPoint.Configuration.{Config}
 use Rattle.ep_base.specs.Air.Heard.{Ask}
+use Rattle.ep_base.specs.Cards.Field.{Field}
 use Rattle.ep_base.specs.Streams.Io.{AppendsPrefix}
 use Rattle.ep_rules.specs.EntryPoint.Kernel.{Scripted, scripted}
 use Rattle.ep_claim.specs.Lanes.Standing.{asked_by}
@@ -26,10 +27,10 @@ pub next_there : (h : Held Scripted) (works : List LaneWork) (lane : ℕ) → Fi
 next_there h works lane fits e = subst (λ n. (1 ≤ lane) × (lane ≤ n)) fits.count (live_there h.lanes lane (next_live h lane e))
 
 -- A lane is live exactly where the run's has an exchange left.
-live_shown : (settings : Config) (fsdi : ℕ) (held : LaneHeld Scripted) (work : LaneWork) (o : Option Going) → ShowsLane settings fsdi held work o
+live_shown : (plays : Option Field → Field → Type 0) (settings : Config) (fsdi : ℕ) (held : LaneHeld Scripted) (work : LaneWork) (o : Option Going) → ShowsLane plays settings fsdi held work o
     → held.live ≡ is_some o
-live_shown settings fsdi held work None h = ap (λ (l : LaneHeld Scripted). l.live) h
-live_shown settings fsdi held work (Some g) h = h.live
+live_shown plays settings fsdi held work None h = ap (λ (l : LaneHeld Scripted). l.live) h
+live_shown plays settings fsdi held work (Some g) h = h.live
 
 -- A lane with an open transaction asks something.
 asks_some : (fsdi : ℕ) (g : Going) (held : LaneHeld Scripted) (t : Option (OpenTransaction Scripted)) → held.transaction ≡ t → is_some t ≡ true
@@ -38,16 +39,16 @@ asks_some : (fsdi : ℕ) (g : Going) (held : LaneHeld Scripted) (t : Option (Ope
 asks_some fsdi g held (Some t) is opened asks_of = (t.asks, asks_of t is)
 asks_some fsdi g held None is opened asks_of = let never : false ≡ true = opened in cc
 
-asked_of : (settings : Config) (fsdi : ℕ) (held : LaneHeld Scripted) (work : LaneWork) (g : Going) → ShowsGoing settings fsdi held work g
+asked_of : (plays : Option Field → Field → Type 0) (settings : Config) (fsdi : ℕ) (held : LaneHeld Scripted) (work : LaneWork) (g : Going) → ShowsGoing plays settings fsdi held work g
     → (ask : Ask) × (asked_by fsdi g.lane.standing.doing ≡ Some ask)
-asked_of settings fsdi held work g h =
+asked_of plays settings fsdi held work g h =
     asks_some fsdi g held held.transaction refl h.opened (λ t is. asks_then scripted g.talk fsdi g.lane.standing held t is h.stands)
 
-module _ {P : Type 0} (settings : Config) (traced : Bool) (fsdi lane : ℕ) (before : ReportState P) (order : Order)
+module _ {P : Type 0} (plays : Option Field → Field → Type 0) (settings : Config) (traced : Bool) (fsdi lane : ℕ) (before : ReportState P) (order : Order)
     (turn : next_of before.lanes ≡ Some (lane, order)) (count : count_of before.lanes ≡ length before.works) (live : is_live before.lanes lane ≡ true)
-    (steps : ProbeSteps P) (start : Option (List ℕ)) (run : Run P) (shows : Shows settings fsdi start before run) where
+    (steps : ProbeSteps P) (start : Option (List ℕ)) (run : Run P) (shows : Shows plays settings fsdi start before run) where
   same_live : (n : ℕ) → is_live before.lanes n ≡ runs.is_live run n
-  same_live n = live_shown settings fsdi (lane_of before.lanes n) (work_of before.works n) (run.lanes n) (shows.each n)
+  same_live n = live_shown plays settings fsdi (lane_of before.lanes n) (work_of before.works n) (run.lanes n) (shows.each n)
 
   run_turn : next_turn (runs.is_live run) (length before.works) run.order ≡ Some (lane, order)
   run_turn =
@@ -57,14 +58,14 @@ module _ {P : Type 0} (settings : Config) (traced : Bool) (fsdi lane : ℕ) (bef
 
   -- what holds of the exchange of the lane whose turn it is, holds of the run's
   module _ (Q : Run P → Type 0)
-      (each : (g : Going) → ShowsGoing settings fsdi (lane_of before.lanes lane) (work_of before.works lane) g → (ask : Ask)
+      (each : (g : Going) → ShowsGoing plays settings fsdi (lane_of before.lanes lane) (work_of before.works lane) g → (ask : Ask)
       → asked_by fsdi g.lane.standing.doing ≡ Some ask → Q (makes_exchange traced steps fsdi lane order g (Some ask) run)) where
     by_going : (o : Option Going) → run.lanes lane ≡ o → Q (turn_of traced steps fsdi lane order o run)
     by_going None e = let never : true ≡ false = sym live ∙ same_live lane ∙ ap is_some e in cc
     by_going (Some g) e =
-        let shown : ShowsGoing settings fsdi (lane_of before.lanes lane) (work_of before.works lane) g =
-        subst (λ o. ShowsLane settings fsdi (lane_of before.lanes lane) (work_of before.works lane) o) e (shows.each lane) in
-        let asked = asked_of settings fsdi (lane_of before.lanes lane) (work_of before.works lane) g shown in
+        let shown : ShowsGoing plays settings fsdi (lane_of before.lanes lane) (work_of before.works lane) g =
+        subst (λ o. ShowsLane plays settings fsdi (lane_of before.lanes lane) (work_of before.works lane) o) e (shows.each lane) in
+        let asked = asked_of plays settings fsdi (lane_of before.lanes lane) (work_of before.works lane) g shown in
         subst (λ (a : Option Ask). Q (makes_exchange traced steps fsdi lane order g a run)) (sym asked.1) (each g shown asked.0 asked.1)
 
     pub of_turn : Q (run_step traced steps fsdi (length before.works) run)
@@ -72,7 +73,7 @@ module _ {P : Type 0} (settings : Config) (traced : Bool) (fsdi lane : ℕ) (bef
 
   -- the lanes after it
   module _ (after : ReportState P) (g : Going) (ask : Ask)
-      (wrote : TurnWrote settings traced steps fsdi lane
+      (wrote : TurnWrote plays settings traced steps fsdi lane
       (record { held = lane_of before.lanes lane; work = work_of before.works lane; probe = before.probe; written = before.written })
       (record { held = lane_of after.lanes lane; work = work_of after.works lane; probe = after.probe; written = after.written }) g ask)
       (order_is : after.lanes.order ≡ order)
@@ -83,28 +84,28 @@ module _ {P : Type 0} (settings : Config) (traced : Bool) (fsdi lane : ℕ) (bef
     abbrev piece : Piece
     piece = turn_piece traced fsdi lane g ask (heard_by steps run.probe lane g ask).1
 
-    by_run : TurnWrote settings traced steps fsdi lane
+    by_run : TurnWrote plays settings traced steps fsdi lane
         (record { held = lane_of before.lanes lane; work = work_of before.works lane; probe = run.probe; written = before.written })
         (record { held = lane_of after.lanes lane; work = work_of after.works lane; probe = after.probe; written = after.written }) g ask
     by_run =
-        subst (λ p. TurnWrote settings traced steps fsdi lane
+        subst (λ p. TurnWrote plays settings traced steps fsdi lane
         (record { held = lane_of before.lanes lane; work = work_of before.works lane; probe = p; written = before.written })
         (record { held = lane_of after.lanes lane; work = work_of after.works lane; probe = after.probe; written = after.written }) g ask)
         shows.probe wrote
 
-    each_after : (k : ℕ) → ShowsLane settings fsdi (lane_of after.lanes k) (work_of after.works k) (if k == lane then piece.going else run.lanes k)
+    each_after : (k : ℕ) → ShowsLane plays settings fsdi (lane_of after.lanes k) (work_of after.works k) (if k == lane then piece.going else run.lanes k)
     each_after k =
         ⊎_elim
-        (λ x. subst (λ (b : Bool). ShowsLane settings fsdi (lane_of after.lanes k) (work_of after.works k) (if b then piece.going else run.lanes k))
+        (λ x. subst (λ (b : Bool). ShowsLane plays settings fsdi (lane_of after.lanes k) (work_of after.works k) (if b then piece.going else run.lanes k))
         (sym x.0)
-        (subst (λ j. ShowsLane settings fsdi (lane_of after.lanes j) (work_of after.works j) piece.going) (sym x.1) by_run.wrote.shows))
-        (λ x. subst (λ (b : Bool). ShowsLane settings fsdi (lane_of after.lanes k) (work_of after.works k) (if b then piece.going else run.lanes k))
+        (subst (λ j. ShowsLane plays settings fsdi (lane_of after.lanes j) (work_of after.works j) piece.going) (sym x.1) by_run.wrote.shows))
+        (λ x. subst (λ (b : Bool). ShowsLane plays settings fsdi (lane_of after.lanes k) (work_of after.works k) (if b then piece.going else run.lanes k))
         (sym x.0)
-        (subst (λ (l : LaneHeld Scripted). ShowsLane settings fsdi l (work_of after.works k) (run.lanes k)) (sym (others k x.1))
-        (subst (λ (w : LaneWork). ShowsLane settings fsdi (lane_of before.lanes k) w (run.lanes k)) (sym (other_works k x.1)) (shows.each k))))
+        (subst (λ (l : LaneHeld Scripted). ShowsLane plays settings fsdi l (work_of after.works k) (run.lanes k)) (sym (others k x.1))
+        (subst (λ (w : LaneWork). ShowsLane plays settings fsdi (lane_of before.lanes k) w (run.lanes k)) (sym (other_works k x.1)) (shows.each k))))
         (eqb_tells k lane)
 
-    pub shows_after : Shows settings fsdi start after (makes_exchange traced steps fsdi lane order g (Some ask) run)
+    pub shows_after : Shows plays settings fsdi start after (makes_exchange traced steps fsdi lane order g (Some ask) run)
     shows_after = record {
       each = each_after;
       order = order_is;
@@ -136,7 +137,7 @@ module _ {P : Type 0} (settings : Config) (traced : Bool) (fsdi lane : ℕ) (bef
     subst (λ p. q ≡ (heard_by steps p lane g ask).0) shows.probe part.probe,
   )
 
-module _ {P : Type 0} (answers : ProbeAnswers P) (settings : Config) (traced : Bool) (fsdi lane : ℕ) (before : ReportState P) (order : Order)
+module _ {P : Type 0} (answers : ProbeAnswers P) (plays : Option Field → Field → Type 0) (settings : Config) (traced : Bool) (fsdi lane : ℕ) (before : ReportState P) (order : Order)
     (turn : next_of before.lanes ≡ Some (lane, order)) (next : next_lane before.lanes ≡ Some lane) (fits : Fits before.lanes before.works)
     (work : LaneWork) (work_is : work ≡ work_of before.works lane) where
   -- what the lane's turn came to is the run's next exchange
@@ -145,45 +146,45 @@ module _ {P : Type 0} (answers : ProbeAnswers P) (settings : Config) (traced : B
       → ((k : ℕ) → k ≢ lane → lane_of after.lanes k ≡ lane_of before.lanes k)
       → ((k : ℕ) → k ≢ lane → work_of after.works k ≡ work_of before.works k)
       → is_some after.written ≡ is_some before.written
-      → LaneTurned answers settings traced fsdi lane
+      → LaneTurned answers plays settings traced fsdi lane
       (record { held = lane_of before.lanes lane; work = work; probe = before.probe; written = before.written })
       (record { held = lane_of after.lanes lane; work = work_then; probe = after.probe; written = after.written })
-      → TurnTaken answers settings traced fsdi before after
+      → TurnTaken answers plays settings traced fsdi before after
   turn_taken after work_then then_is order_is others other_works told law = λ steps tells start run shows.
-      of_turn settings traced fsdi lane before order turn fits.count (next_live before.lanes lane next) steps start run shows
-      (Shows settings fsdi start after)
+      of_turn plays settings traced fsdi lane before order turn fits.count (next_live before.lanes lane next) steps start run shows
+      (Shows plays settings fsdi start after)
       (λ g shown ask asked.
-      shows_after settings traced fsdi lane before order turn fits.count (next_live before.lanes lane next) steps start run shows after g ask
-      (subst (λ (w : LaneWork). TurnWrote settings traced steps fsdi lane
+      shows_after plays settings traced fsdi lane before order turn fits.count (next_live before.lanes lane next) steps start run shows after g ask
+      (subst (λ (w : LaneWork). TurnWrote plays settings traced steps fsdi lane
       (record { held = lane_of before.lanes lane; work = work_of before.works lane; probe = before.probe; written = before.written })
       (record { held = lane_of after.lanes lane; work = w; probe = after.probe; written = after.written }) g ask)
       (sym then_is)
-      (subst (λ (w : LaneWork). TurnWrote settings traced steps fsdi lane
+      (subst (λ (w : LaneWork). TurnWrote plays settings traced steps fsdi lane
       (record { held = lane_of before.lanes lane; work = w; probe = before.probe; written = before.written })
       (record { held = lane_of after.lanes lane; work = work_then; probe = after.probe; written = after.written }) g ask)
       work_is
-      (law steps tells g (subst (λ (w : LaneWork). ShowsGoing settings fsdi (lane_of before.lanes lane) w g) (sym work_is) shown) ask asked)))
+      (law steps tells g (subst (λ (w : LaneWork). ShowsGoing plays settings fsdi (lane_of before.lanes lane) w g) (sym work_is) shown) ask asked)))
       order_is others other_works told)
 
   -- its exchange had no answer
   pub turn_unanswered : (after : ReportState P) (held_then : LaneHeld Scripted) (work_then : LaneWork)
-      → LaneStopped answers settings fsdi lane
+      → LaneStopped answers plays settings fsdi lane
       (record { held = lane_of before.lanes lane; work = work; probe = before.probe; written = before.written })
       (record { held = held_then; work = work_then; probe = after.probe; written = after.written })
-      → TurnUnanswered answers settings traced fsdi before after
+      → TurnUnanswered answers plays settings traced fsdi before after
   turn_unanswered after held_then work_then law = λ steps tells start run shows.
       let left : (after.written ≡ before.written) × (after.probe ≡ (run_step traced steps fsdi (length before.works) run).probe) =
-      of_turn settings traced fsdi lane before order turn fits.count (next_live before.lanes lane next) steps start run shows
+      of_turn plays settings traced fsdi lane before order turn fits.count (next_live before.lanes lane next) steps start run shows
       (λ r. (after.written ≡ before.written) × (after.probe ≡ r.probe))
       (λ g shown ask asked.
-      left_after settings traced fsdi lane before order turn fits.count (next_live before.lanes lane next) steps start run shows after held_then work_then g ask
+      left_after plays settings traced fsdi lane before order turn fits.count (next_live before.lanes lane next) steps start run shows after held_then work_then g ask
       (subst (λ (w : LaneWork). TurnStopped steps lane
       (record { held = lane_of before.lanes lane; work = w; probe = before.probe; written = before.written })
       (record { held = held_then; work = work_then; probe = after.probe; written = after.written }) g ask)
       work_is
-      (law steps tells g (subst (λ (w : LaneWork). ShowsGoing settings fsdi (lane_of before.lanes lane) w g) (sym work_is) shown) ask asked))) in
+      (law steps tells g (subst (λ (w : LaneWork). ShowsGoing plays settings fsdi (lane_of before.lanes lane) w g) (sym work_is) shown) ask asked))) in
       record {
-        turn = turn_is settings traced fsdi lane before order turn fits.count (next_live before.lanes lane next) steps start run shows;
+        turn = turn_is plays settings traced fsdi lane before order turn fits.count (next_live before.lanes lane next) steps start run shows;
         wrote = left.0;
         probe = left.1;
       }
@@ -194,29 +195,29 @@ module _ {P : Type 0} (answers : ProbeAnswers P) (settings : Config) (traced : B
       → ((k : ℕ) → k ≢ lane → lane_of after.lanes k ≡ lane_of before.lanes k)
       → ((k : ℕ) → k ≢ lane → work_of after.works k ≡ work_of before.works k)
       → is_some after.written ≡ is_some before.written
-      → LaneCame answers settings traced fsdi lane
+      → LaneCame answers plays settings traced fsdi lane
       (record { held = lane_of before.lanes lane; work = work; probe = before.probe; written = before.written })
       (record { held = lane_of after.lanes lane; work = work_then; probe = after.probe; written = after.written }) made
-      → TurnCame answers settings traced fsdi before after made
+      → TurnCame answers plays settings traced fsdi before after made
   turn_came true after work_then then_is order_is others other_works told law =
       turn_taken after work_then then_is order_is others other_works told law
   turn_came false after work_then then_is order_is others other_works told law = turn_unanswered after (lane_of after.lanes lane) work_then law
 
   pub turn_cut : (q : P) (written : Option (List ℕ))
-      → LaneCut answers settings traced fsdi lane
+      → LaneCut answers plays settings traced fsdi lane
       (record { held = lane_of before.lanes lane; work = work; probe = before.probe; written = before.written }) q written
-      → TurnCut answers settings traced fsdi before q written
+      → TurnCut answers plays settings traced fsdi before q written
   turn_cut q written law = λ steps tells start run shows.
       let cut : AppendsPrefix start written (run_step traced steps fsdi (length before.works) run).text
       × (q ≡ (run_step traced steps fsdi (length before.works) run).probe) =
-      of_turn settings traced fsdi lane before order turn fits.count (next_live before.lanes lane next) steps start run shows
+      of_turn plays settings traced fsdi lane before order turn fits.count (next_live before.lanes lane next) steps start run shows
       (λ r. AppendsPrefix start written r.text × (q ≡ r.probe))
       (λ g shown ask asked.
-      part_after settings traced fsdi lane before order turn fits.count (next_live before.lanes lane next) steps start run shows g ask q written
+      part_after plays settings traced fsdi lane before order turn fits.count (next_live before.lanes lane next) steps start run shows g ask q written
       (subst (λ (w : LaneWork). TurnPart traced steps fsdi lane
       (record { held = lane_of before.lanes lane; work = w; probe = before.probe; written = before.written }) q written g ask)
       work_is
-      (law steps tells g (subst (λ (w : LaneWork). ShowsGoing settings fsdi (lane_of before.lanes lane) w g) (sym work_is) shown) ask asked))) in
+      (law steps tells g (subst (λ (w : LaneWork). ShowsGoing plays settings fsdi (lane_of before.lanes lane) w g) (sym work_is) shown) ask asked))) in
       record { part = cut.0; probe = cut.1 }
 
 -- The lanes fit what they have to do, where those of one lane changed.

@@ -1,7 +1,8 @@
 -- What a transaction comes to when it is begun (this project's own).
-use Rattle.std.specs.Prelude.{◌≡◌, ℕ, Bool, List, [], ◌++◌, if◌then◌else◌, Option, Some, None, is_some}
+use Rattle.std.specs.Prelude.{◌≡◌, ℕ, Bool, true, false, List, [], ◌++◌, Option, Some, None, is_some}
 use Rattle.ep_rules.specs.EntryPoint.Configuration.{Config}
 use Rattle.ep_base.specs.Air.Heard.{Ask}
+use Rattle.ep_base.specs.Cards.Field.{Field}
 use Rattle.ep_rules.specs.EntryPoint.Kernel.{Scripted, scripted}
 use Rattle.ep_claim.specs.Text.WrittenText.{event_lines, log_lines}
 use Rattle.ep_claim.specs.Lanes.Standing.{asked_by, events_of, started}
@@ -28,12 +29,18 @@ abbrev pub begun_text : (lane txn : ℕ) → Job → Option Ask → List ℕ
 begun_text lane txn j (Some ask) = event_lines lane txn (events_of j.talk (started j.talk))
 begun_text lane txn j None = event_lines lane txn (events_of j.talk (started j.talk)) ++ log_lines lane txn j.field.log
 
--- A transaction of a lane was begun: where something is asked the lane holds its field, and else the lane is without a transaction again (this
+-- What a lane holds then: where something is asked a field, for which the transaction's own stands, and else none (this project's own).
+abbrev pub HoldsBegun : (Option Field → Field → Type 0) → (asks : Bool) → Option Field → Field → Type 0
+HoldsBegun plays true held f = (is_some held ≡ true) × plays held f
+HoldsBegun plays false held f = held ≡ None
+
+-- A transaction of a lane was begun: where something is asked the lane holds a field, and else the lane is without a transaction again (this
 -- project's own).
-pub record BegunLane (settings : Config) (fsdi : ℕ) (w : Work) (held : LaneHeld Scripted) (before after : LaneWork) (asks : Bool) : Type 0 where
+pub record BegunLane (plays : Option Field → Field → Type 0) (settings : Config) (fsdi : ℕ) (w : Work) (held : LaneHeld Scripted)
+    (before after : LaneWork) (asks : Bool) : Type 0 where
   pub asked : asks ≡ is_some (asked_first fsdi (job_of settings w))
   pub opened : is_some held.transaction ≡ asks
   pub stands : Stands scripted held (talk_in settings w) fsdi (started (talk_in settings w))
-  pub field : after.field ≡ (if asks then Some w.field else None)
+  pub field : HoldsBegun plays asks after.field w.field
   pub left : after.left ≡ before.left
   pub number : after.txn ≡ before.txn

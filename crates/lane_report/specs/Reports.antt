@@ -2,6 +2,7 @@
 use Rattle.std.specs.Prelude.{◌≡◌, ℕ, ◌≤◌, All, Bool, List, length, Option, None}
 use Rattle.std.specs.Io.KnownBytes.{Appends}
 use Rattle.ep_rules.specs.EntryPoint.Configuration.{Config, count_of}
+use Rattle.ep_base.specs.Cards.Field.{Field}
 use Rattle.ep_base.specs.Streams.Io.{AppendsPrefix}
 use Rattle.ep_base.specs.declared.limits.TheConstants.{SCRIPTS, STEPS, TRANSACTIONS, TYPE_COMBINATIONS}
 use Rattle.ep_rules.specs.EntryPoint.Kernel.{Script}
@@ -40,9 +41,9 @@ pub record IsNewWork (settings : Config) (work : LaneWork) : Type 0 where
   pub few : All (IsFew settings) work.left
 
 -- The lanes were opened: what was there shows a run whose lanes were just opened (this project's own).
-abbrev pub LanesOpened : {P : Type 0} → Config → ℕ → List ℕ → (before after : ReportState P) → Type 0
-LanesOpened settings fsdi turns before after =
-    Shows settings fsdi before.written after (opened_run fsdi turns before.probe (all_jobs settings before.works))
+abbrev pub LanesOpened : {P : Type 0} → (Option Field → Field → Type 0) → Config → ℕ → List ℕ → (before after : ReportState P) → Type 0
+LanesOpened plays settings fsdi turns before after =
+    Shows plays settings fsdi before.written after (opened_run fsdi turns before.probe (all_jobs settings before.works))
 
 -- The report was written: where the probe has these steps, the run has a text, which was appended (this project's own).
 abbrev pub Reports : {P : Type 0} → ProbeAnswers P → Config → Bool → ℕ → List ℕ → (before after : ReportState P) → Type 0

@@ -1,5 +1,5 @@
 //! Who answers the exchanges of lanes.
-ghost use Rattle.std.specs.Prelude.{◌≡◌, ◌≢◌, ℕ, Bool, true, false, Some, IfSome, IfNone, OnSome, is_some};
+ghost use Rattle.std.specs.Prelude.{◌≡◌, ◌≢◌, ℕ, Bool, true, false, refl, Option, Some, IfSome, IfNone, OnSome, is_some};
 ghost use Rattle.arrayvec.specs.ArrayVec.{array_vec_len};
 ghost use Rattle.ep_base.specs.Cards.Field as plain;
 ghost use Rattle.ep_lanes.specs.Lanes.{count_of, has_open, is_live, lane_of, next_lane, next_of};
@@ -7,11 +7,13 @@ ghost use Rattle.ep_lanes.specs.Probing.{ProbeAnswers};
 ghost use Rattle.ep_lanes.specs.Saying.{is_goes};
 ghost use Rattle.ep_lanes.specs.Scripted.{held_of};
 ghost use Rattle.lane_report.specs.Turned.{HeardTurn, UnheardTurn};
+ghost use Rattle.rf_field.specs.Fields.{field_of};
 ghost use Rattle.session_phases.specs.Told.{told_by};
 
+use card_image::Record;
 use ep_lanes::{EventList, Lanes, Probe, Turned};
 use lane_jobs::LaneJobs;
-use scenario::Scripts;
+use scenario::{Field, Scripts};
 
 /// Who answers the exchanges of all lanes, in a way that the parameter names. It means a state, and by its steps what a reader
 /// may hear where its field gave so, and the state after it. In some states it has failed: its last exchange had no answer.
@@ -28,6 +30,16 @@ pub trait Answers<By> {
     /// Whether it has failed.
     ghost has_failed: { State → Bool };
 
+    /// The field that stands in the run for that of a transaction before its first exchange.
+    ghost field_for: { plain.Field → plain.Field };
+
+    /// Which fields may stand for the one that a lane holds, if it holds one.
+    ghost plays: { Option plain.Field → plain.Field → Type 0 };
+
+    /// What is written of the log of a transaction's field: that of any field that stands for it.
+    fn log(field: &Field) -> &[Record]
+        ensures log { (f : plain.Field) → plays (Some (field_of field.now)) f → result.now ≡ f.log };
+
     /// Answers the next exchange, which is one of this lane, where a transaction is open. The events that it adds are put into
     /// `events`, which is empty before. `None` where it has no answer: it has failed then.
     fn turn(
@@ -41,10 +53,10 @@ pub trait Answers<By> {
         requires opened { has_open (held_of lanes.old) lane ≡ true }
         requires field { is_some work.old.field ≡ true }
         requires empty { array_vec_len events.old ≡ 0 }
-        ensures turns { IfSome result (λ turned. (f : plain.Field) → work.old.field ≡ Some f →
-            HeardTurn steps lane (held_of lanes.old) f (state self.old) turned (told_by events.new.items) (held_of lanes.new) work.new.field (state self.new)) }
+        ensures turns { IfSome result (λ turned. (f : plain.Field) → plays work.old.field f →
+            HeardTurn steps plays lane (held_of lanes.old) f (state self.old) turned (told_by events.new.items) (held_of lanes.new) work.new.field (state self.new)) }
         ensures answered { OnSome result (has_failed (state self.new) ≡ false) }
-        ensures unheard { IfNone result ((f : plain.Field) → work.old.field ≡ Some f →
+        ensures unheard { IfNone result ((f : plain.Field) → plays work.old.field f →
             UnheardTurn steps lane (lane_of (held_of lanes.old) lane) f (state self.old) (state self.new)) }
         ensures failed { IfNone result (has_failed (state self.new) ≡ true) }
         ensures made { OnSome result (is_some (held_of lanes.new).last ≡ true) }
@@ -56,6 +68,9 @@ pub trait Answers<By> {
         ensures others { (k : ℕ) → k ≢ lane → lane_of (held_of lanes.new) k ≡ lane_of (held_of lanes.old) k }
         ensures count { count_of (held_of lanes.new) ≡ count_of (held_of lanes.old) }
         ensures order { next_of (held_of lanes.old) ≡ Some (lane, (held_of lanes.new).order) };
+
+    /// A transaction begins with the field that stands for its own one.
+    ghost begins: { (f : plain.Field) → plays (Some f) (field_for f) };
 }
 
 /// The way of a probe: the field of each transaction answers, and the probe gives on what it makes of it.
@@ -69,6 +84,17 @@ impl<P: Probe> Answers<ByFields> for P {
     ghost steps = { P.steps };
 
     ghost has_failed = { λ _. false };
+
+    ghost field_for = { λ f. f };
+
+    ghost plays = { λ o f. o ≡ Some f };
+
+    ghost begins = { λ f. refl };
+
+    /// Its own log.
+    fn log(field: &Field) -> &[Record] {
+        field.log().records()
+    }
 
     /// Makes the exchange over the field of the lane's open transaction. It never fails.
     fn turn(

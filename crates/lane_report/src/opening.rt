@@ -6,11 +6,13 @@ ghost use Rattle.ep_base.specs.Streams.Io.{AppendsPrefix};
 ghost use Rattle.ep_lanes.specs.Lanes.{count_of, has_open, is_live, lane_of};
 ghost use Rattle.ep_claim.specs.Lanes.LaneText.{opens};
 ghost use Rattle.lane_report.specs.Begun.{BegunLane, asked_first, begun_text};
+ghost use Rattle.lane_report.specs.Played.{played, played_job};
 ghost use Rattle.lane_report.specs.Shows.{FitsLane, ShowsLane};
 ghost use Rattle.ep_lanes.specs.Scripted.{held_of};
 ghost use Rattle.scenario.specs.Jobs.{job_of};
 ghost use Rattle.lane_jobs.specs.Works.{jobs_of};
 
+use crate::answering::Answers;
 use crate::writing::write_closing;
 use acquirer_config::Config;
 use ep_base::{Sink, SinkFailed};
@@ -23,7 +25,7 @@ use scenario::{Job, Scripts};
 // exchange is asked. The events are put into the list in place of others.
 //
 // Errors: the sink failed; a first part of this was written.
-fn begin_one<K: Sink>(
+fn begin_one<K: Sink, By, A: Answers<By>>(
     lane: u8,
     lanes: &mut Lanes<Scripts>,
     config: &Config,
@@ -38,10 +40,11 @@ fn begin_one<K: Sink>(
     requires closed { has_open (held_of lanes.old) lane ≡ false }
     requires none { work.old.field ≡ None }
     ensures ok { OnOk result (Appends (K.written output.old) (K.written output.new)
-        (begun_text lane work.old.txn (job_of config.now job) (asked_first fsdi (job_of config.now job)))) }
-    ensures begun { IfOk result (BegunLane config.now fsdi job (lane_of (held_of lanes.new) lane) work.old work.new) }
+        (begun_text lane work.old.txn (job_of config.now (played_job A.field_for job)) (asked_first fsdi (job_of config.now (played_job A.field_for job))))) }
+    ensures begun { IfOk result (BegunLane A.plays config.now fsdi (played_job A.field_for job) (lane_of (held_of lanes.new) lane)
+        (played A.field_for work.old) (played A.field_for work.new)) }
     ensures err { OnErr result (AppendsPrefix (K.written output.old) (K.written output.new)
-        (begun_text lane work.old.txn (job_of config.now job) (asked_first fsdi (job_of config.now job)))) }
+        (begun_text lane work.old.txn (job_of config.now (played_job A.field_for job)) (asked_first fsdi (job_of config.now (played_job A.field_for job))))) }
     ensures told { is_some (K.written output.new) ≡ is_some (K.written output.old) }
     ensures cause { HasCause (K.faults output.old) (K.faults output.new) (IsErr result) }
     ensures live { is_live (held_of lanes.new) lane ≡ true }
@@ -63,7 +66,7 @@ fn begin_one<K: Sink>(
         Ok(()) => {}
         Err(_) => return Err(SinkFailed),
     }
-    match write_closing(lane, txn, turned, &field, output) {
+    match write_closing::<K, By, A>(lane, txn, turned, &field, output) {
         Ok(()) => {}
         Err(_) => return Err(SinkFailed),
     }
@@ -81,7 +84,7 @@ fn begin_one<K: Sink>(
 /// put into the list in place of others.
 ///
 /// Errors: the sink failed; a first part of the lines was written.
-pub(crate) fn begin_next<K: Sink>(
+pub(crate) fn begin_next<K: Sink, By, A: Answers<By>>(
     lane: u8,
     lanes: &mut Lanes<Scripts>,
     config: &Config,
@@ -95,12 +98,12 @@ pub(crate) fn begin_next<K: Sink>(
     requires closed { has_open (held_of lanes.old) lane ≡ false }
     requires none { work.old.field ≡ None }
     ensures ok { OnOk result (Appends (K.written output.old) (K.written output.new)
-        (opens fsdi lane (work.old.txn + 1) (jobs_of config.now work.old)).text) }
-    ensures shows { OnOk result (ShowsLane config.now fsdi (lane_of (held_of lanes.new) lane) work.new
-        (opens fsdi lane (work.old.txn + 1) (jobs_of config.now work.old)).going) }
-    ensures fits { OnOk result (FitsLane (lane_of (held_of lanes.new) lane) work.new) }
+        (opens fsdi lane (work.old.txn + 1) (jobs_of config.now (played A.field_for work.old))).text) }
+    ensures shows { OnOk result (ShowsLane A.plays config.now fsdi (lane_of (held_of lanes.new) lane) (played A.field_for work.new)
+        (opens fsdi lane (work.old.txn + 1) (jobs_of config.now (played A.field_for work.old))).going) }
+    ensures fits { OnOk result (FitsLane (lane_of (held_of lanes.new) lane) (played A.field_for work.new)) }
     ensures err { OnErr result (AppendsPrefix (K.written output.old) (K.written output.new)
-        (opens fsdi lane (work.old.txn + 1) (jobs_of config.now work.old)).text) }
+        (opens fsdi lane (work.old.txn + 1) (jobs_of config.now (played A.field_for work.old))).text) }
     ensures told { is_some (K.written output.new) ≡ is_some (K.written output.old) }
     ensures cause { HasCause (K.faults output.old) (K.faults output.new) (IsErr result) }
     ensures others { (k : ℕ) → k ≢ lane → lane_of (held_of lanes.new) k ≡ lane_of (held_of lanes.old) k }
@@ -108,7 +111,7 @@ pub(crate) fn begin_next<K: Sink>(
     ensures order { (held_of lanes.new).order ≡ (held_of lanes.old).order }
 {
     'each: while let Some(job) = work.next_job() {
-        match begin_one(lane, lanes, config, fsdi, work, job, output, events) {
+        match begin_one::<K, By, A>(lane, lanes, config, fsdi, work, job, output, events) {
             Ok(true) => return Ok(()),
             Ok(false) => {}
             Err(_) => return Err(SinkFailed),

@@ -6,6 +6,7 @@ ghost use Rattle.ep_base.specs.declared.limits.TheConstants.{LANES};
 ghost use Rattle.ep_lanes.specs.Lanes.{new_lanes};
 ghost use Rattle.ep_claim.specs.Lanes.WholeRun.{opening_text};
 ghost use Rattle.lane_report.specs.Made.{TurnsCut, TurnsMade};
+ghost use Rattle.lane_report.specs.Played.{all_played};
 ghost use Rattle.lane_report.specs.Reports.{IsNewWork, LanesOpened, Reports, ReportsPart, RunsPart, RunsTo};
 ghost use Rattle.lane_report.specs.Shows.{Fits};
 ghost use Rattle.ep_lanes.specs.Scripted.{held_of};
@@ -71,7 +72,7 @@ pub fn report_lanes<K: Sink, P: Probe>(
     }
 }
 
-/// Runs at most `LANES` lanes as a report does, whoever answers their exchanges. It says whether the run is over: no lane has an
+/// Runs at most `LANES` lanes as a report does, whoever answers their exchanges, and over the fields that stand for theirs. It says whether the run is over: no lane has an
 /// exchange left, or else the next exchange had no answer. Before that one all was written, and who answers is in the state in
 /// which it failed.
 ///
@@ -93,16 +94,16 @@ pub fn run_lanes<K: Sink, By, A: Answers<By>>(
     requires few { length works.old ≤ LANES }
     requires works { All (IsNewWork config.now) works.old }
     ensures ok { IfOk result (RunsTo A.steps A.has_failed config.now traced fsdi (held_of lanes.old).order.turns
-        (record { lanes = held_of lanes.old; works = works.old; probe = A.state answers.old; written = K.written output.old })
-        (record { lanes = held_of lanes.new; works = works.new; probe = A.state answers.new; written = K.written output.new })) }
+        (record { lanes = held_of lanes.old; works = all_played A.field_for works.old; probe = A.state answers.old; written = K.written output.old })
+        (record { lanes = held_of lanes.new; works = all_played A.field_for works.new; probe = A.state answers.new; written = K.written output.new })) }
     ensures err { OnErr result (RunsPart A.steps A.has_failed config.now traced fsdi (held_of lanes.old).order.turns
-        (record { lanes = held_of lanes.old; works = works.old; probe = A.state answers.old; written = K.written output.old })
+        (record { lanes = held_of lanes.old; works = all_played A.field_for works.old; probe = A.state answers.old; written = K.written output.old })
         (K.written output.new)) }
     ensures told { is_some (K.written output.new) ≡ is_some (K.written output.old) }
     ensures cause { HasCause (K.faults output.old) (K.faults output.new) (IsErr result) }
 {
     let mut events = EventList::new();
-    match open_lanes(lanes, config, fsdi, works, output, &mut events) {
+    match open_lanes::<K, By, A>(lanes, config, fsdi, works, output, &mut events) {
         Ok(()) => make_turns::<K, By, A>(
             lanes,
             config,
@@ -118,7 +119,7 @@ pub fn run_lanes<K: Sink, By, A: Answers<By>>(
 }
 
 // Opens all lanes in rising order.
-fn open_lanes<K: Sink>(
+fn open_lanes<K: Sink, By, A: Answers<By>>(
     lanes: &mut Lanes<Scripts>,
     config: &Config,
     fsdi: u8,
@@ -130,18 +131,18 @@ fn open_lanes<K: Sink>(
     requires new { held_of lanes.old ≡ new_lanes (length works.old) (held_of lanes.old).order.turns }
     requires few { length works.old ≤ LANES }
     requires works { All (IsNewWork config.now) works.old }
-    ensures ok { OnOk result (LanesOpened config.now fsdi (held_of lanes.old).order.turns
-        (record { lanes = held_of lanes.old; works = works.old; probe = tt {0}; written = K.written output.old })
-        (record { lanes = held_of lanes.new; works = works.new; probe = tt {0}; written = K.written output.new })) }
-    ensures fits { OnOk result (Fits (held_of lanes.new) works.new) }
+    ensures ok { OnOk result (LanesOpened A.plays config.now fsdi (held_of lanes.old).order.turns
+        (record { lanes = held_of lanes.old; works = all_played A.field_for works.old; probe = tt {0}; written = K.written output.old })
+        (record { lanes = held_of lanes.new; works = all_played A.field_for works.new; probe = tt {0}; written = K.written output.new })) }
+    ensures fits { OnOk result (Fits (held_of lanes.new) (all_played A.field_for works.new)) }
     ensures count { length works.new ≡ length works.old }
-    ensures err { OnErr result (AppendsPrefix (K.written output.old) (K.written output.new) (opening_text fsdi 1 (all_jobs config.now works.old))) }
+    ensures err { OnErr result (AppendsPrefix (K.written output.old) (K.written output.new) (opening_text fsdi 1 (all_jobs config.now (all_played A.field_for works.old)))) }
     ensures told { is_some (K.written output.new) ≡ is_some (K.written output.old) }
     ensures cause { HasCause (K.faults output.old) (K.faults output.new) (IsErr result) }
 {
     let mut lane = 1u8;
     for work in works.iter_mut() {
-        match begin_next(lane, lanes, config, fsdi, work, output, events) {
+        match begin_next::<K, By, A>(lane, lanes, config, fsdi, work, output, events) {
             Ok(()) => {}
             Err(_) => return Err(SinkFailed),
         }
@@ -162,12 +163,12 @@ fn make_turns<K: Sink, By, A: Answers<By>>(
     events: &mut EventList,
 ) -> Result<bool, SinkFailed>
     requires code { fsdi ≤ 8 }
-    requires fits { Fits (held_of lanes.old) works.old }
-    ensures ok { IfOk result (TurnsMade A.steps A.has_failed config.now traced fsdi
-        (record { lanes = held_of lanes.old; works = works.old; probe = A.state answers.old; written = K.written output.old })
-        (record { lanes = held_of lanes.new; works = works.new; probe = A.state answers.new; written = K.written output.new })) }
-    ensures err { OnErr result (TurnsCut A.steps A.has_failed config.now traced fsdi
-        (record { lanes = held_of lanes.old; works = works.old; probe = A.state answers.old; written = K.written output.old })
+    requires fits { Fits (held_of lanes.old) (all_played A.field_for works.old) }
+    ensures ok { IfOk result (TurnsMade A.steps A.has_failed A.plays config.now traced fsdi
+        (record { lanes = held_of lanes.old; works = all_played A.field_for works.old; probe = A.state answers.old; written = K.written output.old })
+        (record { lanes = held_of lanes.new; works = all_played A.field_for works.new; probe = A.state answers.new; written = K.written output.new })) }
+    ensures err { OnErr result (TurnsCut A.steps A.has_failed A.plays config.now traced fsdi
+        (record { lanes = held_of lanes.old; works = all_played A.field_for works.old; probe = A.state answers.old; written = K.written output.old })
         (K.written output.new)) }
     ensures told { is_some (K.written output.new) ≡ is_some (K.written output.old) }
     ensures cause { HasCause (K.faults output.old) (K.faults output.new) (IsErr result) }

@@ -8,6 +8,7 @@ ghost use Rattle.ep_claim.specs.Text.WrittenText.{log_lines};
 ghost use Rattle.ep_lanes.specs.Lanes.{count_of, has_open, is_live, lane_of, next_lane, next_of};
 ghost use Rattle.ep_lanes.specs.Saying.{is_goes};
 ghost use Rattle.ep_claim.specs.Lanes.LaneText.{after_text, opens};
+ghost use Rattle.lane_report.specs.Played.{all_played, played};
 ghost use Rattle.lane_report.specs.Shows.{Fits, FitsLane};
 ghost use Rattle.ep_lanes.specs.Scripted.{held_of};
 ghost use Rattle.lane_report.specs.Turned.{GoesOn, GoesOnPart, LaneCame, LaneCut, TurnCame, TurnCut, Wrote};
@@ -25,7 +26,7 @@ use scenario::Scripts;
 // Writes the log of a transaction that ended, and opens the lane's next one.
 //
 // Errors: the sink failed; a first part of the lines was written.
-fn close_and_next<K: Sink>(
+fn close_and_next<K: Sink, By, A: Answers<By>>(
     lane: u8,
     lanes: &mut Lanes<Scripts>,
     config: &Config,
@@ -38,12 +39,12 @@ fn close_and_next<K: Sink>(
     requires live { is_live (held_of lanes.old) lane ≡ true }
     requires closed { has_open (held_of lanes.old) lane ≡ false }
     requires field { is_some work.old.field ≡ true }
-    ensures ok { OnOk result ((f : plain.Field) → work.old.field ≡ Some f →
-        Wrote config.now fsdi (lane_of (held_of lanes.new) lane) work.new (K.written output.old) (K.written output.new)
-        (after_text (log_lines lane work.old.txn f.log) (opens fsdi lane (work.old.txn + 1) (jobs_of config.now work.old)))) }
-    ensures fits { OnOk result (FitsLane (lane_of (held_of lanes.new) lane) work.new) }
-    ensures err { OnErr result ((f : plain.Field) → work.old.field ≡ Some f → AppendsPrefix (K.written output.old) (K.written output.new)
-        (log_lines lane work.old.txn f.log ++ (opens fsdi lane (work.old.txn + 1) (jobs_of config.now work.old)).text)) }
+    ensures ok { OnOk result ((f : plain.Field) → A.plays work.old.field f →
+        Wrote A.plays config.now fsdi (lane_of (held_of lanes.new) lane) (played A.field_for work.new) (K.written output.old) (K.written output.new)
+        (after_text (log_lines lane work.old.txn f.log) (opens fsdi lane (work.old.txn + 1) (jobs_of config.now (played A.field_for work.old))))) }
+    ensures fits { OnOk result (FitsLane (lane_of (held_of lanes.new) lane) (played A.field_for work.new)) }
+    ensures err { OnErr result ((f : plain.Field) → A.plays work.old.field f → AppendsPrefix (K.written output.old) (K.written output.new)
+        (log_lines lane work.old.txn f.log ++ (opens fsdi lane (work.old.txn + 1) (jobs_of config.now (played A.field_for work.old))).text)) }
     ensures told { is_some (K.written output.new) ≡ is_some (K.written output.old) }
     ensures cause { HasCause (K.faults output.old) (K.faults output.new) (IsErr result) }
     ensures others { (k : ℕ) → k ≢ lane → lane_of (held_of lanes.new) k ≡ lane_of (held_of lanes.old) k }
@@ -53,8 +54,8 @@ fn close_and_next<K: Sink>(
     let Some(field) = work.take_field() else {
         unreachable!()
     };
-    match write_log(lane, work.txn(), field.log().records(), output) {
-        Ok(()) => begin_next(lane, lanes, config, fsdi, work, output, events),
+    match write_log(lane, work.txn(), A::log(&field), output) {
+        Ok(()) => begin_next::<K, By, A>(lane, lanes, config, fsdi, work, output, events),
         Err(_) => Err(SinkFailed),
     }
 }
@@ -62,7 +63,7 @@ fn close_and_next<K: Sink>(
 // After an exchange: the lane waits for its next one, or its transaction has ended, and the next one is opened.
 //
 // Errors: the sink failed; a first part of the lines was written.
-fn go_on<K: Sink>(
+fn go_on<K: Sink, By, A: Answers<By>>(
     lane: u8,
     lanes: &mut Lanes<Scripts>,
     config: &Config,
@@ -76,10 +77,10 @@ fn go_on<K: Sink>(
     requires live { is_live (held_of lanes.old) lane ≡ true }
     requires goes { has_open (held_of lanes.old) lane ≡ is_goes turned }
     requires field { is_some work.old.field ≡ true }
-    ensures ok { OnOk result (GoesOn config.now fsdi lane (lane_of (held_of lanes.old) lane) work.old turned (lane_of (held_of lanes.new) lane) work.new
+    ensures ok { OnOk result (GoesOn A.plays config.now fsdi lane (lane_of (held_of lanes.old) lane) (played A.field_for work.old) turned (lane_of (held_of lanes.new) lane) (played A.field_for work.new)
         (K.written output.old) (K.written output.new)) }
-    ensures fits { OnOk result (FitsLane (lane_of (held_of lanes.new) lane) work.new) }
-    ensures err { OnErr result (GoesOnPart config.now fsdi lane (lane_of (held_of lanes.old) lane) work.old turned (K.written output.old) (K.written output.new)) }
+    ensures fits { OnOk result (FitsLane (lane_of (held_of lanes.new) lane) (played A.field_for work.new)) }
+    ensures err { OnErr result (GoesOnPart A.plays config.now fsdi lane (lane_of (held_of lanes.old) lane) (played A.field_for work.old) turned (K.written output.old) (K.written output.new)) }
     ensures told { is_some (K.written output.new) ≡ is_some (K.written output.old) }
     ensures cause { HasCause (K.faults output.old) (K.faults output.new) (IsErr result) }
     ensures others { (k : ℕ) → k ≢ lane → lane_of (held_of lanes.new) k ≡ lane_of (held_of lanes.old) k }
@@ -88,7 +89,9 @@ fn go_on<K: Sink>(
 {
     match turned {
         Turned::Goes => Ok(()),
-        Turned::Ended(_) => close_and_next(lane, lanes, config, fsdi, work, output, events),
+        Turned::Ended(_) => close_and_next::<K, By, A>(
+            lane, lanes, config, fsdi, work, output, events,
+        ),
     }
 }
 
@@ -111,13 +114,13 @@ fn turn_lane<K: Sink, By, A: Answers<By>>(
     requires next { next_lane (held_of lanes.old) ≡ Some lane }
     requires opened { has_open (held_of lanes.old) lane ≡ true }
     requires field { is_some work.old.field ≡ true }
-    ensures ok { IfOk result (λ made. LaneCame A.steps config.now traced fsdi lane
-        (record { held = lane_of (held_of lanes.old) lane; work = work.old; probe = A.state answers.old; written = K.written output.old })
-        (record { held = lane_of (held_of lanes.new) lane; work = work.new; probe = A.state answers.new; written = K.written output.new }) made) }
+    ensures ok { IfOk result (λ made. LaneCame A.steps A.plays config.now traced fsdi lane
+        (record { held = lane_of (held_of lanes.old) lane; work = played A.field_for work.old; probe = A.state answers.old; written = K.written output.old })
+        (record { held = lane_of (held_of lanes.new) lane; work = played A.field_for work.new; probe = A.state answers.new; written = K.written output.new }) made) }
     ensures answered { IfOk result (λ made. A.has_failed (A.state answers.new) ≡ not made) }
-    ensures fits { IfOk result (λ made. made ≡ true → FitsLane (lane_of (held_of lanes.new) lane) work.new) }
-    ensures err { OnErr result (LaneCut A.steps config.now traced fsdi lane
-        (record { held = lane_of (held_of lanes.old) lane; work = work.old; probe = A.state answers.old; written = K.written output.old })
+    ensures fits { IfOk result (λ made. made ≡ true → FitsLane (lane_of (held_of lanes.new) lane) (played A.field_for work.new)) }
+    ensures err { OnErr result (LaneCut A.steps A.plays config.now traced fsdi lane
+        (record { held = lane_of (held_of lanes.old) lane; work = played A.field_for work.old; probe = A.state answers.old; written = K.written output.old })
         (A.state answers.new) (K.written output.new)) }
     ensures heard { OnErr result (A.has_failed (A.state answers.new) ≡ false) }
     ensures told { is_some (K.written output.new) ≡ is_some (K.written output.old) }
@@ -137,7 +140,7 @@ fn turn_lane<K: Sink, By, A: Answers<By>>(
         Ok(()) => {}
         Err(_) => return Err(SinkFailed),
     }
-    match go_on(lane, lanes, config, fsdi, turned, work, output, events) {
+    match go_on::<K, By, A>(lane, lanes, config, fsdi, turned, work, output, events) {
         Ok(()) => Ok(true),
         Err(_) => Err(SinkFailed),
     }
@@ -162,14 +165,14 @@ pub(crate) fn take_turn<K: Sink, By, A: Answers<By>>(
 ) -> Result<bool, SinkFailed>
     requires code { fsdi ≤ 8 }
     requires next { next_lane (held_of lanes.old) ≡ Some lane }
-    requires fits { Fits (held_of lanes.old) works.old }
-    ensures ok { IfOk result (λ made. TurnCame A.steps config.now traced fsdi
-        (record { lanes = held_of lanes.old; works = works.old; probe = A.state answers.old; written = K.written output.old })
-        (record { lanes = held_of lanes.new; works = works.new; probe = A.state answers.new; written = K.written output.new }) made) }
+    requires fits { Fits (held_of lanes.old) (all_played A.field_for works.old) }
+    ensures ok { IfOk result (λ made. TurnCame A.steps A.plays config.now traced fsdi
+        (record { lanes = held_of lanes.old; works = all_played A.field_for works.old; probe = A.state answers.old; written = K.written output.old })
+        (record { lanes = held_of lanes.new; works = all_played A.field_for works.new; probe = A.state answers.new; written = K.written output.new }) made) }
     ensures answered { IfOk result (λ made. A.has_failed (A.state answers.new) ≡ not made) }
-    ensures fits { IfOk result (λ made. made ≡ true → Fits (held_of lanes.new) works.new) }
-    ensures err { OnErr result (TurnCut A.steps config.now traced fsdi
-        (record { lanes = held_of lanes.old; works = works.old; probe = A.state answers.old; written = K.written output.old })
+    ensures fits { IfOk result (λ made. made ≡ true → Fits (held_of lanes.new) (all_played A.field_for works.new)) }
+    ensures err { OnErr result (TurnCut A.steps A.plays config.now traced fsdi
+        (record { lanes = held_of lanes.old; works = all_played A.field_for works.old; probe = A.state answers.old; written = K.written output.old })
         (A.state answers.new) (K.written output.new)) }
     ensures heard { OnErr result (A.has_failed (A.state answers.new) ≡ false) }
     ensures told { is_some (K.written output.new) ≡ is_some (K.written output.old) }

@@ -10,6 +10,7 @@ ghost use Rattle.rf_frame.specs.Meaning.{heard_of};
 ghost use Rattle.session_phases.specs.Told.{told_by};
 ghost use Rattle.lane_report.specs.Begun.{closing_text};
 
+use crate::answering::Answers;
 use ep_base::{Line, Sink, SinkFailed, push_all};
 use ep_lanes::{EventList, Exchange, Turned};
 use lane_jobs::{write_events, write_log};
@@ -17,24 +18,24 @@ use rf_frame::copy_frame;
 use scenario::Field;
 use trace_io::{Shown, TraceLine, trace_line};
 
-/// Writes the log of a field's cards, where the transaction has ended.
+/// Writes what is written of a field's log, where the transaction has ended.
 ///
 /// Errors: the sink failed; a first part of the lines was written.
-pub(crate) fn write_closing<K: Sink>(
+pub(crate) fn write_closing<K: Sink, By, A: Answers<By>>(
     lane: u8,
     txn: u8,
     turned: Turned,
     field: &Field,
     output: &mut K,
 ) -> Result<(), SinkFailed>
-    ensures ok { OnOk result (Appends (K.written output.old) (K.written output.new) (closing_text turned lane txn (field_of field.now).log)) }
-    ensures err { OnErr result (AppendsPrefix (K.written output.old) (K.written output.new) (closing_text turned lane txn (field_of field.now).log)) }
+    ensures ok { OnOk result (Appends (K.written output.old) (K.written output.new) (closing_text turned lane txn (A.field_for (field_of field.now)).log)) }
+    ensures err { OnErr result (AppendsPrefix (K.written output.old) (K.written output.new) (closing_text turned lane txn (A.field_for (field_of field.now)).log)) }
     ensures told { is_some (K.written output.new) ≡ is_some (K.written output.old) }
     ensures cause { HasCause (K.faults output.old) (K.faults output.new) (IsErr result) }
 {
     match turned {
         Turned::Goes => Ok(()),
-        Turned::Ended(_) => write_log(lane, txn, field.log().records(), output),
+        Turned::Ended(_) => write_log(lane, txn, A::log(field), output),
     }
 }
 

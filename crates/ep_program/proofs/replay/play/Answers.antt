@@ -4,10 +4,11 @@ use Rattle.ep_claim.specs.Lanes.ReplayRun.{Replaying}
 use Rattle.ep_lanes.specs.Lanes.{Held}
 use Rattle.scenario.specs.Scenario.{Work, Scenario}
 use Rattle.trace_io.specs.Meaning.{traced_of}
+use Rattle.ep_program.specs.Headline.{IsFresh}
 use Rattle.ep_program.specs.Replay.{trace_lines, Plays}
 use Rattle.ep_program.specs.declared.status.Status.TheVariants.{Done, WriteFault, Mismatch}
-use Rattle.ep_program.proofs.Ready.{all_map}
-use Rattle.ep_program.proofs.Replaying.{works_are_first, talks_to_come, writes_replay, writes_replay_part}
+use Rattle.ep_program.proofs.Ready.{all_map, works_are_new}
+use Rattle.ep_program.proofs.Replaying.{talks_to_come, writes_replay, writes_replay_part}
 use Rattle.ep_program.proofs.replay.play.Goals as goal
 
 pub works_of-requires : goal.works_of-requires
@@ -17,7 +18,10 @@ works_of-requires g c =
 
 pub replay_lanes-requires-clause-works : goal.replay_lanes-requires-clause-works
 replay_lanes-requires-clause-works g c =
-    works_are_first (λ lane. lane.items) c.scenario.inside.lanes.items _ (c.deref_mut.ensures.value ∙ c.in-Ok.ensures)
+    works_are_new (λ lane. lane.items) c.scenario.inside.config c.scenario.inside.lanes.items _
+    (c.deref_mut.ensures.value ∙ c.in-Ok.ensures) c.scenario.inside.fsdi
+    (subst (λ (s : Scenario). All (λ lane. length lane ≤ 64) s.lanes) (sym c.scenario.view_is) c.requires.ready.short)
+    (subst (λ (s : Scenario). All (All (IsFresh s.config s.fsdi)) s.lanes) (sym c.scenario.view_is) c.requires.ready.fresh)
 
 pub returns-in-Ok-replay_lanes-clause-plays : goal.returns-in-Ok-replay_lanes-clause-plays
 returns-in-Ok-replay_lanes-clause-plays g c =

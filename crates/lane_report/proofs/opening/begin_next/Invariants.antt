@@ -4,6 +4,7 @@ use Rattle.std.specs.Io.KnownBytes.{Appends}
 use Rattle.ep_base.specs.Streams.Io.{AppendsPrefix}
 use Rattle.ep_lanes.specs.Lanes.{count_of, has_open, is_live, lane_of}
 use Rattle.ep_lanes.specs.Scripted.{held_of}
+use Rattle.lane_report.specs.Played.{played}
 use Rattle.lane_report.proofs.Beginning.{here}
 use Rattle.lane_report.proofs.opening.begin_next.Given as goal
 
@@ -11,12 +12,13 @@ use Rattle.lane_report.proofs.opening.begin_next.Given as goal
 abbrev pub invariant-each : goal.invariant-each
 invariant-each g l =
     let K = g.K.Sink in
+    let play = played g.A.Answers.field_for in
     record {
-      ok : (w : Option (List ℕ)) → Appends (K.written l.output) w (here l.config l.fsdi l.lane l.work).text
-          → Appends (K.written l.fn.output) w (here l.config l.fsdi l.lane l.fn.work).text;
-      err : (w : Option (List ℕ)) → AppendsPrefix (K.written l.output) w (here l.config l.fsdi l.lane l.work).text
-          → AppendsPrefix (K.written l.fn.output) w (here l.config l.fsdi l.lane l.fn.work).text;
-      going : (here l.config l.fsdi l.lane l.work).going ≡ (here l.config l.fsdi l.lane l.fn.work).going;
+      ok : (w : Option (List ℕ)) → Appends (K.written l.output) w (here l.config l.fsdi l.lane (play l.work)).text
+          → Appends (K.written l.fn.output) w (here l.config l.fsdi l.lane (play l.fn.work)).text;
+      err : (w : Option (List ℕ)) → AppendsPrefix (K.written l.output) w (here l.config l.fsdi l.lane (play l.work)).text
+          → AppendsPrefix (K.written l.fn.output) w (here l.config l.fsdi l.lane (play l.fn.work)).text;
+      going : (here l.config l.fsdi l.lane (play l.work)).going ≡ (here l.config l.fsdi l.lane (play l.fn.work)).going;
       told : is_some (K.written l.output) ≡ is_some (K.written l.fn.output);
       later : K.faults l.fn.output ≤ K.faults l.output;
       live : is_live (held_of l.lanes) l.lane ≡ true;

@@ -5,6 +5,7 @@ use Rattle.ep_base.specs.Streams.Io.{AppendsPrefix}
 use Rattle.ep_claim.specs.Lanes.WholeRun.{opening_text}
 use Rattle.ep_lanes.specs.Scripted.{held_of}
 use Rattle.lane_jobs.specs.Works.{all_jobs}
+use Rattle.lane_report.specs.Played.{all_played}
 use Rattle.lane_report.proofs.Opened.{Opening}
 use Rattle.lane_report.proofs.run.open_lanes.Given as goal
 
@@ -12,10 +13,11 @@ use Rattle.lane_report.proofs.run.open_lanes.Given as goal
 abbrev pub invariant-loop-work : goal.invariant-loop-work
 invariant-loop-work g l =
     let K = g.K.Sink in
-    let jobs = all_jobs l.config l.fn.works in
+    let play = all_played g.A.Answers.field_for in
+    let jobs = all_jobs l.config (play l.fn.works) in
     record {
       number : l.lane ≡ l.work-index + 1;
-      opening : Opening l.config l.fsdi l.work-index (held_of l.fn.lanes) l.fn.works (held_of l.lanes) l.works;
+      opening : Opening g.A.Answers.plays l.config l.fsdi l.work-index (held_of l.fn.lanes) (play l.fn.works) (held_of l.lanes) (play l.works);
       ok : (w : Option (List ℕ)) → Appends (K.written l.output) w (opening_text l.fsdi l.lane (drop l.work-index jobs))
           → Appends (K.written l.fn.output) w (opening_text l.fsdi 1 jobs);
       err : (w : Option (List ℕ)) → AppendsPrefix (K.written l.output) w (opening_text l.fsdi l.lane (drop l.work-index jobs))

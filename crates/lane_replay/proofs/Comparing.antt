@@ -5,7 +5,7 @@ use Rattle.std.proofs.lemmas.Option.{slice_get_within}
 use Rattle.ep_base.specs.Air.Heard.{Ask, Heard}
 use Rattle.ep_claim.specs.Lanes.ReplayRun.{Mismatch, Replaying, at_lane, compared, failing, next_line, same_shown, sends_unless, took}
 use Rattle.ep_claim.specs.Text.TraceLine.{Shown, TraceLine}
-use Rattle.lane_replay.specs.Turned.{lines_left}
+use Rattle.lane_replay.specs.Machine.{lines_left}
 use Rattle.ep_claim.specs.Lanes.WholeReplay.{compared_at}
 
 -- a line is taken with each answer, and without one the trace has failed
