@@ -19,7 +19,7 @@ use Rattle.select_rules.specs.Left.{StandsFor}
 use Rattle.select_rules.specs.declared.pair.Pair.{Pair}
 use Rattle.session_phases.specs.Offers.{offered}
 use Rattle.session_phases.specs.Told.{Comes, outcome_said}
-use Rattle.session_phases.specs.Wishes.{Lasts, RestartsLeft, next_start, Within, Before, Selects, Decides, Activates, Moves, Hears, Chosen, Offers, Sends, Lists, Looks, Wished}
+use Rattle.session_phases.specs.Wishes.{Lasts, CommandsLeft, RestartsLeft, next_start, Within, Before, Selects, Decides, Activates, Moves, Hears, Chosen, Offers, Sends, Lists, Looks, Wished}
 use Rattle.session_phases.specs.Plain as plain
 use Rattle.session_phases.specs.Causes.{HasOutcome}
 use Rattle.session_phases.proofs.Failing.{outcome_before}
@@ -132,6 +132,11 @@ first_lasts k (Done v) s1 s2 h = tt
 more_lasts : {S : Type 0} (k : KernelSteps S) (m : KernelStep) (n : ℕ) (s1 s2 : S) → k.commands s1 < suc n → CountsFall k m s1 s2 → Lasts k n m s2
 more_lasts k (Send c) n s1 s2 lt h = omega (arith, h.0)
 more_lasts k (Done v) n s1 s2 lt h = tt
+
+-- The commands that are left after a move.
+pub commands_left : {S : Type 0} (k : KernelSteps S) (m : KernelStep) (n : ℕ) (s1 s2 : S) → k.commands s1 ≤ n → CountsFall k m s1 s2 → CommandsLeft m n (k.commands s2)
+commands_left k (Send c) n s1 s2 le h = omega (arith, h.0)
+commands_left k (Done v) n s1 s2 le h = omega (arith, h.0)
 
 -- The restarts that are left after a move.
 restarts_left : {S : Type 0} (k : KernelSteps S) (m : KernelStep) (n : ℕ) (s1 s2 : S) → k.restarts s1 ≤ n → CountsFall k m s1 s2 → RestartsLeft m n (k.restarts s2)

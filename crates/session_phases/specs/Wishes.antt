@@ -1,7 +1,8 @@
 -- How what a transaction wishes of a presented card stands for the rest of its talk.
-use Rattle.std.specs.Prelude.{◌≡◌, ℕ, zero, suc, ◌<◌, ◌≤◌, Bool, true, false, not, ◌&&◌, List, [], ◌∷◌, length, Some, if◌then◌else◌}
+use Rattle.std.specs.Prelude.{◌≡◌, ℕ, zero, suc, ◌+◌, ◌<◌, ◌≤◌, Bool, true, false, not, ◌&&◌, List, [], ◌∷◌, length, Some, if◌then◌else◌}
 use Rattle.ep_base.specs.Cards.Apdu.{select, ppse_name, is_9000}
 use Rattle.ep_base.specs.Objects.Arena.{Object}
+use Rattle.ep_base.specs.declared.limits.TheConstants.{PAIRS}
 use Rattle.ep_rules.specs.EntryPoint.Candidates.{Candidate, candidates, final_command}
 use Rattle.ep_base.specs.Objects.Directory.{directory, entries_held}
 use Rattle.ep_rules.specs.EntryPoint.Kernel.{KernelSteps, KernelStep, Send, Done}
@@ -43,6 +44,19 @@ Lasts k n (Done verdict) s = Unit {0}
 abbrev pub RestartsLeft : KernelStep → ℕ → ℕ → Type 0
 RestartsLeft (Send command) old new = new ≤ old
 RestartsLeft (Done verdict) old new = RestartsFall verdict.kind old new
+
+-- The commands that are left after a kernel's move, of n before (this project's own).
+abbrev pub CommandsLeft : KernelStep → ℕ → ℕ → Type 0
+CommandsLeft (Send command) old new = new < old
+CommandsLeft (Done verdict) old new = new ≤ old
+
+-- The final SELECTs that may still follow a wish, and one more for its own answer: what falls at each response but for the commands of kernels (this
+-- project's own).
+abbrev pub selects_left : Wish → ℕ
+selects_left (plain.Command command plain.Directory) = PAIRS + 1
+selects_left (plain.Command command (plain.Final given rest)) = length rest + 1
+selects_left (plain.Command command (plain.Kernel rest)) = length rest + 1
+selects_left (plain.Close again) = 0
 
 -- Before the close at which a transaction ends, an outcome was said (after EMV Contactless Book B).
 abbrev pub CloseDecided : Bool → List EventData → Type 0

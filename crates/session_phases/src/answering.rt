@@ -1,12 +1,12 @@
 //! What follows the response to a command.
-ghost use Rattle.std.specs.Prelude.{◌≡◌, ℕ, ◌+◌, ◌≤◌, List, [], ◌∷◌, ◌++◌, true};
+ghost use Rattle.std.specs.Prelude.{◌≡◌, ℕ, ◌+◌, ◌<◌, ◌≤◌, List, [], ◌∷◌, ◌++◌, true};
 ghost use Rattle.arrayvec.specs.ArrayVec.{array_vec_len};
 ghost use Rattle.ep_rules.specs.EntryPoint.Event.{Event as EventData};
 ghost use Rattle.ep_rules.specs.EntryPoint.Talk.{Talk, Result, Response as Responds};
-ghost use Rattle.session_phases.specs.Plain.{purpose_of, wish_of};
+ghost use Rattle.session_phases.specs.Plain.{Command as wishes_command, purpose_of, wish_of};
 ghost use Rattle.session_phases.specs.Room.{HasRoom};
 ghost use Rattle.session_phases.specs.Told.{told_by};
-ghost use Rattle.session_phases.specs.Wishes.{Serves, Wished, serves, serves_wish};
+ghost use Rattle.session_phases.specs.Wishes.{Serves, Wished, RestartsAt, selects_left, serves, serves_wish};
 
 use crate::directory::after_directory;
 use crate::events::note;
@@ -18,7 +18,7 @@ use pre_processing::Prepared;
 use tlv_arena::Arena;
 
 /// What is wished after the response to a command that was sent for this purpose. Both stand in the selection, and are
-/// noted.
+/// noted. What may still follow falls with each response: the final SELECTs and the kernels' commands, together.
 pub fn respond<K: Kernels>(
     purpose: Purpose,
     selection: &mut Selection,
@@ -35,6 +35,9 @@ pub fn respond<K: Kernels>(
         → Wished K.steps prepared.now.list (K.state kernels.new) arena.new.objects talk (results ++ Responds selection.old.response ∷ []) (before ++ told_by events.new.items) (wish_of result selection.new) }
     ensures serves { serves_wish (K.is_open kernels.new) (K.is_fresh kernels.new) (wish_of result selection.new) ≡ true }
     ensures room { HasRoom arena.new.contents }
+    ensures falls { K.steps.commands (K.state kernels.new) + selects_left (wish_of result selection.new)
+        < K.steps.commands (K.state kernels.old) + selects_left (wishes_command selection.old.command (purpose_of purpose selection.old)) }
+    ensures restarts { RestartsAt (wish_of result selection.new) (K.steps.restarts (K.state kernels.old)) (K.steps.restarts (K.state kernels.new)) }
     ensures count { array_vec_len events.new ≤ array_vec_len events.old + 6 }
 {
     let command = selection.command.copy();

@@ -1,5 +1,6 @@
 //! What follows the answer to SELECT PPSE.
 ghost use Rattle.std.specs.Prelude.{◌≡◌, ℕ, ◌+◌, ◌≤◌, List, ◌++◌, true, length};
+ghost use Rattle.ep_base.specs.declared.limits.TheConstants.{PAIRS};
 ghost use Rattle.arrayvec.specs.ArrayVec.{array_vec_len};
 ghost use Rattle.ep_rules.specs.EntryPoint.Candidates.{Candidate};
 ghost use Rattle.ep_base.specs.Objects.Directory.{Entry};
@@ -10,7 +11,7 @@ ghost use Rattle.select_rules.specs.Left.{StandsFor};
 ghost use Rattle.session_phases.specs.Plain.{wish_of};
 ghost use Rattle.session_phases.specs.Room.{HasRoom};
 ghost use Rattle.session_phases.specs.Told.{told_by};
-ghost use Rattle.session_phases.specs.Wishes.{Before, Lists, Wished, serves_wish};
+ghost use Rattle.session_phases.specs.Wishes.{Before, Lists, Wished, RestartsAt, selects_left, serves_wish};
 
 use crate::events::note;
 use crate::selecting::select_left;
@@ -22,8 +23,9 @@ use select_rules::Candidates;
 use tlv_arena::Arena;
 
 /// How many candidates there are.
-pub fn count_of(candidates: &Candidates) -> u16
-    ensures { (ones : List PreparedOne) (entries : List Entry) (left : List Candidate) → StandsFor ones entries candidates.now left → result ≡ length left }
+fn count_of(candidates: &Candidates) -> u16
+    ensures counts { (ones : List PreparedOne) (entries : List Entry) (left : List Candidate) → StandsFor ones entries candidates.now left → result ≡ length left }
+    ensures most { length candidates.now ≤ PAIRS }
 {
     candidates.len() as u16
 }
@@ -43,6 +45,8 @@ pub(crate) fn after_directory<K: Kernels>(
         → Wished K.steps prepared.now.list (K.state kernels.now) arena.new.objects talk results (before ++ told_by events.new.items) (wish_of result selection.new) }
     ensures serves { serves_wish (K.is_open kernels.now) (K.is_fresh kernels.now) (wish_of result selection.new) ≡ true }
     ensures room { HasRoom arena.new.contents }
+    ensures falls { selects_left (wish_of result selection.new) ≤ PAIRS }
+    ensures restarts { (n m : ℕ) → m ≤ n → RestartsAt (wish_of result selection.new) n m }
     ensures count { array_vec_len events.new ≤ array_vec_len events.old + 3 }
 {
     arena.clear();

@@ -17,8 +17,7 @@ mod selecting;
 mod steps;
 
 pub use answering::respond;
-pub use directory::count_of;
 pub use hearing::hear;
-pub use offers::{activation_of, answered, current, is_success};
-pub use opening::begin;
+pub use opening::{begin, open};
+pub use polling::meet;
 pub use steps::{LastLink, Onward, Phase, Presentation, Purpose, Round, Selection, Wish};

@@ -42,7 +42,7 @@ fn note_list(ones: &[PreparedOne], events: &mut EventList)
 }
 
 /// Notes all up to the first Start B, or up to the end where there is none, and says whether there is one.
-fn open(prepared: &Prepared, events: &mut EventList) -> bool
+pub fn open(prepared: &Prepared, events: &mut EventList) -> bool
     requires { array_vec_len events.old + 19 ≤ 24 }
     ensures goes { (talk : Talk) (results : List Result) (before : List EventData) (next : Talk)
         → Comes talk results (before ++ told_by events.old.items) (opens prepared.now.txn_type prepared.now.amount prepared.now.list next)

@@ -2,12 +2,13 @@
 ghost use Rattle.std.specs.Prelude.{◌≡◌, ℕ, ◌+◌, ◌<◌, ◌≤◌, All, Bool, List, [], ◌∷◌, ◌++◌, true, Option, Some, IsSome, option_map};
 ghost use Rattle.arrayvec.specs.ArrayVec.{array_vec_len};
 ghost use Rattle.block_reader.specs.Stands.{Held};
+ghost use Rattle.ep_base.specs.Cards.Apdu.{select, ppse_name};
 ghost use Rattle.ep_base.specs.Cards.CardLimits.{AreLimits, EndsInLimits};
 ghost use Rattle.ep_base.specs.declared.outcome.Message.TheVariants.{OneCardOnly};
 ghost use Rattle.ep_base.specs.Poll.Radio.{OpenLink, link_to};
 ghost use Rattle.ep_base.specs.Poll.Round.{Stage, round_hears};
 ghost use Rattle.ep_rules.specs.EntryPoint.Event.{Event as EventData};
-ghost use Rattle.ep_rules.specs.EntryPoint.Talk.{Talk, Result, by_end, rounds, say_collision};
+ghost use Rattle.ep_rules.specs.EntryPoint.Talk.{Talk, Result, Command as talk_command, by_end, rounds, say_collision};
 ghost use Rattle.ep_claim.specs.Lanes.Standing.{after_stage, link_by, standing};
 ghost use Rattle.poll_activate.specs.Meaning.{ends_of};
 ghost use Rattle.rf_frame.specs.Meaning.{heard_of, round_end_of};
@@ -74,6 +75,26 @@ fn next_round(
     open_round(fsdi, left - 1, collided, round, ask)
 }
 
+/// A card that was found is noted, and the command that asks for its directory is the selection's.
+pub fn meet(card: &Activated, selection: &mut Selection, events: &mut EventList)
+    requires { array_vec_len events.old < 24 }
+    ensures goes { (talk : Talk) (results : List Result) (before : List EventData) (next : List ℕ → Talk)
+        → Comes talk results (before ++ told_by events.old.items) (presents next card.now)
+        → Comes talk results (before ++ told_by events.new.items) (talk_command (select ppse_name) next) }
+    ensures command { selection.new.command ≡ select ppse_name }
+    ensures count { array_vec_len events.new ≡ array_vec_len events.old + 1 }
+{
+    let found = card.copy();
+    note(
+        events,
+        Event::Card {
+            kind: found.kind,
+            id: found.id,
+        },
+    );
+    selection.command = Command::select(&PPSE_NAME);
+}
+
 /// A card that was found: a link to it is opened, and its directory is asked for.
 fn find(
     card: &Activated,
@@ -93,17 +114,9 @@ fn find(
     ensures left { (left : ℕ) (round : Round) → LeftThen (onward_of result ask.new round selection.new) left }
     ensures kept { kept_of (link_held link.new) ≡ [] }
 {
-    let found = card.copy();
-    note(
-        events,
-        Event::Card {
-            kind: found.kind,
-            id: found.id,
-        },
-    );
+    meet(card, selection, events);
     link.end.reopen(card, fsdi);
     link.was_opened = true;
-    selection.command = Command::select(&PPSE_NAME);
     let wish = Wish::Command(Purpose::Directory);
     begin_wish(wish, selection, &mut link.end, ask);
     Onward::Goes(Phase::Waiting(wish))

@@ -1,5 +1,5 @@
 //! A kernel, from its activation to what follows its outcome.
-ghost use Rattle.std.specs.Prelude.{◌≡◌, ℕ, ◌+◌, ◌≤◌, List, ◌++◌, true, false};
+ghost use Rattle.std.specs.Prelude.{◌≡◌, ℕ, ◌+◌, ◌≤◌, List, ◌++◌, true, false, length};
 ghost use Rattle.arrayvec.specs.ArrayVec.{array_vec_len};
 ghost use Rattle.ep_rules.specs.EntryPoint.Event.{Event as EventData};
 ghost use Rattle.ep_rules.specs.EntryPoint.Talk.{Talk, Result};
@@ -8,7 +8,7 @@ ghost use Rattle.kernel_port.specs.Kernels.{move_of, is_send};
 ghost use Rattle.kernel_port.specs.Outcome.{verdict_of};
 ghost use Rattle.session_phases.specs.Plain.{wish_of};
 ghost use Rattle.session_phases.specs.Told.{told_by};
-ghost use Rattle.session_phases.specs.Wishes.{Within, Decides, Moves, Activates, Hears, Wished, RestartsLeft, serves_wish};
+ghost use Rattle.session_phases.specs.Wishes.{Within, Decides, Moves, Activates, Hears, Wished, CommandsLeft, RestartsAt, RestartsLeft, selects_left, serves_wish};
 
 use crate::events::{note, note_outcome};
 use crate::selecting::select_left;
@@ -31,6 +31,8 @@ fn decide<K: Kernels>(
         → Within K.steps prepared.now.list arena.now.objects selection.old.rest (λ n. RestartsFall outcome.kind n (K.steps.restarts (K.state kernels.now))) (Decides K.steps prepared.now.list (K.state kernels.now) (verdict_of outcome)) talk results (before ++ told_by events.old.items)
         → Wished K.steps prepared.now.list (K.state kernels.now) arena.now.objects talk results (before ++ told_by events.new.items) (wish_of result selection.new) }
     ensures serves { serves_wish (K.is_open kernels.now) (K.is_fresh kernels.now) (wish_of result selection.new) ≡ true }
+    ensures falls { selects_left (wish_of result selection.new) ≤ length selection.old.rest }
+    ensures restarts { (n : ℕ) → RestartsFall outcome.kind n (K.steps.restarts (K.state kernels.now)) → RestartsAt (wish_of result selection.new) n (K.steps.restarts (K.state kernels.now)) }
     ensures count { array_vec_len events.new ≤ array_vec_len events.old + 4 }
 {
     note_outcome(events, outcome);
@@ -61,6 +63,9 @@ fn go_on<K: Kernels>(
         → Within K.steps prepared.now.list arena.now.objects selection.old.rest (λ n. RestartsLeft (move_of step) n (K.steps.restarts (K.state kernels.now))) (Moves K.steps prepared.now.list (K.state kernels.now) (move_of step)) talk results (before ++ told_by events.old.items)
         → Wished K.steps prepared.now.list (K.state kernels.now) arena.now.objects talk results (before ++ told_by events.new.items) (wish_of result selection.new) }
     ensures serves { serves_wish (K.is_open kernels.now) (K.is_fresh kernels.now) (wish_of result selection.new) ≡ true }
+    ensures falls { (n : ℕ) → CommandsLeft (move_of step) n (K.steps.commands (K.state kernels.now))
+        → K.steps.commands (K.state kernels.now) + selects_left (wish_of result selection.new) ≤ n + length selection.old.rest }
+    ensures restarts { (n : ℕ) → RestartsLeft (move_of step) n (K.steps.restarts (K.state kernels.now)) → RestartsAt (wish_of result selection.new) n (K.steps.restarts (K.state kernels.now)) }
     ensures count { array_vec_len events.new ≤ array_vec_len events.old + 4 }
 {
     match step {
@@ -85,6 +90,8 @@ pub(crate) fn activate<K: Kernels>(
         → Within K.steps prepared.now.list arena.now.objects selection.old.rest (λ n. K.steps.restarts (K.state kernels.old) ≤ n) (Activates K.steps prepared.now.list (K.state kernels.old) selection.old.given) talk results (before ++ told_by events.old.items)
         → Wished K.steps prepared.now.list (K.state kernels.new) arena.now.objects talk results (before ++ told_by events.new.items) (wish_of result selection.new) }
     ensures serves { serves_wish (K.is_open kernels.new) (K.is_fresh kernels.new) (wish_of result selection.new) ≡ true }
+    ensures falls { K.steps.commands (K.state kernels.new) + selects_left (wish_of result selection.new) ≤ K.steps.commands (K.state kernels.old) + length selection.old.rest }
+    ensures restarts { RestartsAt (wish_of result selection.new) (K.steps.restarts (K.state kernels.old)) (K.steps.restarts (K.state kernels.new)) }
     ensures count { array_vec_len events.new ≤ array_vec_len events.old + 5 }
 {
     kernels.begin(&selection.given);
@@ -108,6 +115,8 @@ pub(crate) fn after_command<K: Kernels>(
         → Within K.steps prepared.now.list arena.now.objects selection.old.rest (λ n. K.steps.restarts (K.state kernels.old) ≤ n) (Hears K.steps prepared.now.list (K.state kernels.old) selection.old.response) talk results (before ++ told_by events.old.items)
         → Wished K.steps prepared.now.list (K.state kernels.new) arena.now.objects talk results (before ++ told_by events.new.items) (wish_of result selection.new) }
     ensures serves { serves_wish (K.is_open kernels.new) (K.is_fresh kernels.new) (wish_of result selection.new) ≡ true }
+    ensures falls { K.steps.commands (K.state kernels.new) + selects_left (wish_of result selection.new) ≤ K.steps.commands (K.state kernels.old) + length selection.old.rest }
+    ensures restarts { RestartsAt (wish_of result selection.new) (K.steps.restarts (K.state kernels.old)) (K.steps.restarts (K.state kernels.new)) }
     ensures count { array_vec_len events.new ≤ array_vec_len events.old + 4 }
 {
     let step = kernels.step(Some(&selection.response));

@@ -16,7 +16,7 @@ returns-clause-wishes g c = λ talk results before h.
     (listed g.K.Kernels.steps c.args.prepared.now.list c.read_directory-directory.new.arena.objects talk results before (told_by c.args.events.now.items) (g.K.Kernels.state c.args.kernels.now)
     c.build-selection.result c.args.selection.now.response n c.count_of.result es (told_by c.note.new.events.items)
     refl c.read_directory-directory.ensures.held c.build-selection.ensures.stands
-    (c.count_of.ensures c.args.prepared.now.list es (candidates c.args.prepared.now.list es) c.build-selection.ensures.stands) c.note.ensures.told h)
+    (c.count_of.ensures.counts c.args.prepared.now.list es (candidates c.args.prepared.now.list es) c.build-selection.ensures.stands) c.note.ensures.told h)
 
 pub returns-clause-room : goal.returns-clause-room
 returns-clause-room g c =
