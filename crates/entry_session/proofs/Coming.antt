@@ -1,5 +1,5 @@
 -- What a talk comes to, runs as it does: what it says by all results settles how it runs.
-use Rattle.std.proofs.Common.{◌≡◌, ℕ, inl, inr, List, [], ◌∷◌, ◌++◌, refl, ap, sym, subst, ◌∙◌}
+use Rattle.std.proofs.Common.{◌≡◌, ℕ, inl, inr, Bool, true, false, List, [], ◌∷◌, ◌++◌, refl, ap, sym, subst, ◌∙◌}
 use Rattle.ep_base.specs.Air.Heard.{RoundEnd}
 use Rattle.ep_base.specs.Poll.Transport.{TransportSteps, Here, Nobody, Gone, Answered, Spent, Breached, Lost, PresentResult, Reply}
 use Rattle.ep_rules.specs.EntryPoint.Event.{Event as EventData, OwnEvent, Tells, Apdu, End, Ending}
@@ -104,7 +104,7 @@ module _ {T E : Type 0} (link : TransportSteps T) (events : EventSteps E) where
   reply_on c more next other Breached u e left on runs = runs
   reply_on c more next other Lost u e left on runs = runs
 
-  close_on : (more : List RoundEnd) (next other : Talk) (well : _) (u : T) (e : E) (left : RunLeft T E)
+  close_on : (more : List RoundEnd) (next other : Talk) (well : Bool) (u : T) (e : E) (left : RunLeft T E)
       → (Runs link events other more u e left → Runs link events next more u e left)
       → AfterClose link events (Runs link events other more) well u e left → AfterClose link events (Runs link events next more) well u e left
   close_on more next other true u e left on runs = on runs

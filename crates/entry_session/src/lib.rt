@@ -2,11 +2,10 @@
 //! (EMV Book B, with this project's profile).
 #![tactic(auto)]
 
-mod candidates;
 mod direct;
+mod driving;
 mod hearing;
 mod holding;
-mod kernel;
 mod ran;
 mod session;
 mod starting;

@@ -94,8 +94,9 @@ impl<K: Kernels + Drop> Session<K> {
         self.presentation.link.was_opened = false;
         self.presentation.rounds.clear();
         run_whole(
-            &mut self.presentation.arena,
+            &mut self.presentation.selection,
             prepared,
+            &mut self.presentation.arena,
             kernels,
             transport,
             events,
