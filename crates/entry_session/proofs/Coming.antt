@@ -5,7 +5,7 @@ use Rattle.ep_base.specs.Poll.Transport.{TransportSteps, Here, Nobody, Gone, Ans
 use Rattle.ep_rules.specs.EntryPoint.Event.{Event as EventData, OwnEvent, Tells, Apdu, End, Ending}
 use Rattle.ep_rules.specs.EntryPoint.EventSteps.{EventSteps}
 use Rattle.ep_rules.specs.EntryPoint.Talk.{Talk, Over, Say, Poll, Command, Close, Result, Round, Response, Closed, SoFar, Wish, Polls, Commands, Closes, Nothing, so_far, after_event}
-use Rattle.ep_rules.specs.EntryPoint.TransportRun.{RunLeft, RunEnd, EventsFailed, Leaves, Takes, Ends, AfterPresent, AfterReply, AfterClose, Runs, all_taken, first_end, more_ends}
+use Rattle.ep_rules.specs.EntryPoint.TransportRun.{RunLeft, EventsFailed, Leaves, Takes, AfterPresent, AfterReply, AfterClose, Runs, all_taken, first_end, more_ends}
 use Rattle.session_phases.specs.Told.{after_events}
 use Rattle.entry_session.specs.Meaning.{IsCutIn}
 
@@ -31,7 +31,7 @@ one_less x y s r h =
     let more : s.events ≡ r.events = cc in (
       first,
       ap (λ (es : List EventData). let t : SoFar = record { events = es; wish = s.wish } in t) more
-      ∙ ap (λ (w : Wish). let t : SoFar = record { events = r.events; wish = w } in t) w,
+          ∙ ap (λ (w : Wish). let t : SoFar = record { events = r.events; wish = w } in t) w,
     )
 
 say_is : (x : OwnEvent) (next rest : Talk) → ComesTo (Say x next) [] rest → (other : Talk) × (rest ≡ Say x other) × ComesTo next [] other

@@ -1,18 +1,18 @@
 -- How a run over a transport goes on by what the phases wish.
-use Rattle.std.proofs.Common.{◌≡◌, ℕ, zero, suc, ◌<◌, ◌≤◌, inl, inr, Bool, true, false, List, [], ◌∷◌, ◌++◌, refl, ap, sym, subst, ◌∙◌, arith}
+use Rattle.std.proofs.Common.{◌≡◌, ℕ, zero, suc, ◌<◌, ◌≤◌, Bool, true, false, List, [], ◌∷◌, ◌++◌, refl, ap, sym, subst, ◌∙◌, arith}
 use Rattle.std.specs.Prelude.{if◌then◌else◌}
 use Rattle.ep_base.specs.Air.Heard.{Activated}
 use Rattle.ep_base.specs.Cards.Apdu.{select, ppse_name, is_9000}
 use Rattle.ep_base.specs.Objects.Arena.{Object}
 use Rattle.ep_base.specs.Poll.Transport.{TransportSteps, Reply, Answered}
 use Rattle.ep_rules.specs.EntryPoint.Candidates.{Candidate}
-use Rattle.ep_rules.specs.EntryPoint.Event.{Event as EventData, Finished}
+use Rattle.ep_rules.specs.EntryPoint.Event.{Event as EventData}
 use Rattle.ep_rules.specs.EntryPoint.EventSteps.{EventSteps}
 use Rattle.ep_rules.specs.EntryPoint.Kernel.{KernelSteps}
 use Rattle.ep_rules.specs.EntryPoint.PreProcessing.{PreparedOne}
 use Rattle.ep_rules.specs.EntryPoint.Talk.{Talk, Result, Response}
 use Rattle.ep_rules.specs.EntryPoint.Talk as talks
-use Rattle.ep_rules.specs.EntryPoint.Transaction.{ends, selects, activates, after_verdict, given_to, kernel_runs, presented, start_b, start_c, starts}
+use Rattle.ep_rules.specs.EntryPoint.Transaction.{ends, selects, activates, after_verdict, given_to, presented, start_b, start_c, starts}
 use Rattle.ep_rules.specs.EntryPoint.TransportRun.{RunLeft, AfterReply, Runs, Onward, all_taken}
 use Rattle.session_phases.specs.Plain.{Purpose, Directory, Final, Kernel, Wish, Command, Close}
 use Rattle.session_phases.specs.Rounds.{presents}
@@ -81,9 +81,13 @@ module _ {S T E : Type 0} (k : KernelSteps S) (ones : List PreparedOne) (link : 
       let on : (rest : Talk) × WishesNow k ones s1 objects1 rest w × Comes talk (Response answer ∷ []) told rest = wishing k ones s1 objects1 talk (Response answer ∷ []) told w wished in (
         on.0,
         on.1,
-        λ left runs. runs_from link events talk (talks.Command command at.0) [] (λ more. at.1.goes more) [] t e left
-            (Answered answer, u, step, response_runs link events command answer told (at.0 answer) on.0 u e left (λ more. sym (at.1.goes (Response answer ∷ more)) ∙ on.2.goes more)
-            (subst (λ (f : E). Runs link events on.0 [] u f left) taken runs)),
+        λ left runs. runs_from link events talk (talks.Command command at.0) [] (λ more. at.1.goes more) [] t e left (
+          Answered answer,
+          u,
+          step,
+          response_runs link events command answer told (at.0 answer) on.0 u e left (λ more. sym (at.1.goes (Response answer ∷ more)) ∙ on.2.goes more)
+              (subst (λ (f : E). Runs link events on.0 [] u f left) taken runs),
+        ),
       )
 
   -- One of these events is cut.
@@ -94,9 +98,13 @@ module _ {S T E : Type 0} (k : KernelSteps S) (ones : List PreparedOne) (link : 
   answered_cut s s1 objects objects1 talk command answer p w told t u e f r step cut h wished =
       let at : (next : List ℕ → Talk) × Comes talk [] [] (talks.Command command next) = serving k ones s objects talk command p h in
       let on : (rest : Talk) × WishesNow k ones s1 objects1 rest w × Comes talk (Response answer ∷ []) told rest = wishing k ones s1 objects1 talk (Response answer ∷ []) told w wished in
-      runs_from link events talk (talks.Command command at.0) [] (λ more. at.1.goes more) [] t e (left_of r u f)
-      (Answered answer, u, step, response_cut link events command answer told (at.0 answer) on.0 u e (left_of r u f) (λ more. sym (at.1.goes (Response answer ∷ more)) ∙ on.2.goes more)
-      f cut.1 (ap run_end_of cut.0, refl, refl))
+      runs_from link events talk (talks.Command command at.0) [] (λ more. at.1.goes more) [] t e (left_of r u f) (
+        Answered answer,
+        u,
+        step,
+        response_cut link events command answer told (at.0 answer) on.0 u e (left_of r u f) (λ more. sym (at.1.goes (Response answer ∷ more)) ∙ on.2.goes more)
+            f cut.1 (ap run_end_of cut.0, refl, refl),
+      )
 
   -- A command has none.
   pub unanswered : (s : S) (objects : List Object) (talk : Talk) (command : List ℕ) (p : Purpose) (reply : Reply) (t u : T) (e : E) (left : RunLeft T E)

@@ -1,6 +1,6 @@
 use Rattle.std.proofs.Common.{List, [], refl, ap, subst, ◌∙◌}
 use Rattle.std.proofs.lemmas.Result.{err_from_is_err_and}
-use Rattle.ep_base.specs.Poll.Transport.{Answered, Spent, Breached, Lost}
+use Rattle.ep_base.specs.Poll.Transport.{Spent, Breached, Lost}
 use Rattle.ep_rules.specs.EntryPoint.TransportRun.{all_taken}
 use Rattle.kernel_port.specs.declared.event.Event.{Event}
 use Rattle.kernel_port.specs.declared.event.End.TheVariants as ending

@@ -1,4 +1,4 @@
-use Rattle.std.proofs.Common.{◌≡◌, ℕ, ◌+◌, ◌≤◌, List, [], true}
+use Rattle.std.proofs.Common.{◌≡◌, ◌+◌, ◌≤◌, [], true}
 use Rattle.ep_rules.specs.EntryPoint.Talk.{Talk}
 use Rattle.session_phases.specs.Plain.{Directory, wish_of}
 use Rattle.session_phases.specs.Room.{HasRoom}

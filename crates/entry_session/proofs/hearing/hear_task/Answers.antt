@@ -4,7 +4,7 @@ use Rattle.poll_activate.specs.Meaning.{ends_of}
 use Rattle.rf_frame.specs.Meaning.{heard_of}
 use Rattle.session_phases.specs.Stands.{StepStands, link_held}
 use Rattle.session_phases.specs.Told.{told_by}
-use Rattle.session_phases.specs.Plain.{Ask, Ended, step_of}
+use Rattle.session_phases.specs.Plain.{Ask, step_of}
 use Rattle.session_phases.proofs.Shown.{turned_events}
 use Rattle.entry_session.specs.Turns.{StandsFor, CauseShows}
 use Rattle.entry_session.proofs.Advancing.{work_at, view_at, asks_stand, cause_shows, end_stands}
