@@ -25,7 +25,7 @@ use Rattle.law_turns.proofs.Telling.{runs_tell_law}
 use Rattle.law_turns.proofs.Writing.{pieces_are_text_law}
 use Rattle.scenario.specs.Jobs.{job_of}
 use Rattle.scenario.specs.Scenario.{Work}
-use Rattle.lane_jobs.specs.Works.{preparation}
+use Rattle.lane_run.specs.Works.{preparation}
 use Rattle.ep_program.specs.Headline.{IsFresh}
 use Rattle.ep_claim.specs.Promise.Run.{GivesOn, HasPromise}
 

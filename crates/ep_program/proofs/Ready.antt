@@ -17,9 +17,9 @@ use Rattle.ep_claim.specs.Lanes.WholeRun.{ProbeSteps}
 use Rattle.card_table.specs.Placing.{placed_from}
 use Rattle.ep_lanes.specs.Lanes.{Held, new_lanes}
 use Rattle.ep_lanes.specs.Probing.{ProbeAnswers}
-use Rattle.lane_report.specs.Reports.{HasRun, IsFew, IsNewWork}
-use Rattle.lane_report.specs.Shows.{Tells}
-use Rattle.lane_jobs.specs.Works.{LaneWork, new_work, all_jobs, jobs_of}
+use Rattle.lane_run.specs.Reports.{HasRun, IsFew, IsNewWork}
+use Rattle.lane_run.specs.Shows.{Tells}
+use Rattle.lane_run.specs.Works.{LaneWork, new_work, all_jobs, jobs_of}
 use Rattle.scenario.specs.Accepted.{IsLawful, IsLane, IsAccepted}
 use Rattle.scenario.specs.Jobs.{job_of, jobs_in}
 use Rattle.scenario.specs.Plan.{Transaction, Plan}

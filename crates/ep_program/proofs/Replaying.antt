@@ -10,11 +10,11 @@ use Rattle.ep_base.specs.Streams.Io.{AppendsPrefix}
 use Rattle.ep_claim.specs.Lanes.ReplayRun as traces
 use Rattle.ep_rules.specs.EntryPoint.Talk.{Talk}
 use Rattle.ep_claim.specs.Text.TraceLine.{TraceLine}
-use Rattle.lane_replay.specs.Shows.{all_talks}
+use Rattle.lane_run.specs.Talks.{all_talks}
 use Rattle.ep_claim.specs.Lanes.WholeReplay.{ReplayEnds}
-use Rattle.lane_replay.proofs.Differing.{mismatches_differ_law}
-use Rattle.lane_replay.proofs.Stopping.{one_end_law}
-use Rattle.lane_jobs.specs.Works.{LaneWork, new_work}
+use Rattle.lane_run.proofs.Differing.{mismatches_differ_law}
+use Rattle.lane_run.proofs.Stopping.{one_end_law}
+use Rattle.lane_run.specs.Works.{LaneWork, new_work}
 use Rattle.scenario.specs.Jobs.{talk_in, talks_in}
 use Rattle.scenario.specs.Plan.{Plan, plan}
 use Rattle.scenario.specs.Scenario.{Work, Scenario, scenario_of}

@@ -28,7 +28,7 @@ use Rattle.law_turns.proofs.Ending.{runs_end_within_law}
 use Rattle.law_turns.proofs.Logging.{logs_fit_law}
 use Rattle.law_turns.proofs.Making.{are_under_way_law}
 use Rattle.law_turns.proofs.Telling.{keeps_in_run_law}
-use Rattle.lane_jobs.specs.Works.{preparation}
+use Rattle.lane_run.specs.Works.{preparation}
 use Rattle.scenario.specs.Jobs.{job_of, jobs_in, talk_in}
 use Rattle.scenario.specs.Scenario.{Work, Scenario}
 use Rattle.ep_program.specs.Headline.{IsFresh, IsReady}

@@ -8,8 +8,8 @@ use Rattle.ep_rules.specs.EntryPoint.Bounds.{log_bound}
 use Rattle.ep_claim.specs.Promise.Cards.{number_of_card, image_in}
 use Rattle.ep_claim.specs.Promise.Perfection.{IsNew}
 use Rattle.scenario.specs.Scenario.{Work, Scenario}
-use Rattle.lane_report.specs.Reports.{IsFew}
-use Rattle.lane_jobs.specs.Works.{preparation}
+use Rattle.lane_run.specs.Reports.{IsFew}
+use Rattle.lane_run.specs.Works.{preparation}
 
 -- The reader's radio before a transaction's first round (this project's own).
 abbrev pub radio_before : ℕ → Work → Radio Field

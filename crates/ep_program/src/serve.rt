@@ -15,8 +15,7 @@ use crate::replay::replay_document;
 use crate::status::Status;
 use ep_base::{INPUT, NoMemory, Sink, Source};
 use ep_lanes::{Lanes, Probe};
-use lane_jobs::works_of;
-use lane_report::report_lanes;
+use lane_run::{report_lanes, works_of};
 use scenario::Scenario;
 use std::alloc::Global;
 

@@ -1,0 +1,23 @@
+use Rattle.std.proofs.Common.{◌≡◌, ◌≤◌, ℕ, List, length, Option}
+use Rattle.std.specs.Prelude.{is_some}
+use Rattle.std.specs.Io.KnownBytes.{Appends}
+use Rattle.ep_base.specs.Streams.Io.{AppendsPrefix}
+use Rattle.ep_claim.specs.Text.WrittenText.{event_lines}
+use Rattle.session_phases.specs.Told.{told_by}
+use Rattle.lane_run.proofs.lines.write_events.Given as goal
+
+-- what is written of the lines that are left is written of all lines
+abbrev pub invariant-each : goal.invariant-each
+invariant-each g l =
+    let K = g.K.Sink in
+    record {
+      ok : (w : Option (List ℕ)) → Appends (K.written l.output) w (event_lines l.lane l.txn (told_by l.rest))
+          → Appends (K.written l.fn.output) w (event_lines l.lane l.txn (told_by l.fn.events.items));
+      err : (w : Option (List ℕ)) → AppendsPrefix (K.written l.output) w (event_lines l.lane l.txn (told_by l.rest))
+          → AppendsPrefix (K.written l.fn.output) w (event_lines l.lane l.txn (told_by l.fn.events.items));
+      told : is_some (K.written l.output) ≡ is_some (K.written l.fn.output);
+      later : K.faults l.fn.output ≤ K.faults l.output;
+    }
+
+abbrev pub decreases-each : goal.decreases-each
+decreases-each g l = length l.rest

@@ -1,0 +1,17 @@
+pub mod Begun
+pub mod Blank
+pub mod Ended
+pub mod Ends
+pub mod Machine
+pub mod Made
+pub mod OwnTrace
+pub mod Played
+pub mod Replayed
+pub mod Reports
+pub mod Shows
+pub mod Stopping
+pub mod Talks
+pub mod Turned
+pub mod Waiting
+pub mod Works
+pub mod Written
