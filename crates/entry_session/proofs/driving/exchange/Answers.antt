@@ -9,7 +9,7 @@ use Rattle.session_phases.specs.Told.{told_by}
 use Rattle.session_phases.proofs.Turning.{same_purpose}
 use Rattle.entry_session.specs.Meaning.{left_of, CutsIn}
 use Rattle.entry_session.proofs.Reaching.{serves_on, answered_goes, answered_cut, unanswered}
-use Rattle.entry_session.proofs.Restarts.{says_end}
+use Rattle.entry_session.proofs.Ending.{says_end}
 use Rattle.entry_session.proofs.driving.exchange.Goals as goal
 
 pub returns-in_err-say_each-in-Ok-clause-stops : goal.returns-in_err-say_each-in-Ok-clause-stops

@@ -10,7 +10,7 @@ use Rattle.session_phases.specs.Told.{Comes, told_by}
 use Rattle.entry_session.specs.Meaning.{left_of, run_end_of, CutsIn}
 use Rattle.entry_session.proofs.Coming.{cut_from, runs_from}
 use Rattle.entry_session.proofs.Reaching.{opened}
-use Rattle.entry_session.proofs.Restarts.{says_end}
+use Rattle.entry_session.proofs.Ending.{says_end}
 use Rattle.entry_session.proofs.whole.run_whole.Goals as goal
 
 pub returns-in-Err-clause-runs : goal.returns-in-Err-clause-runs
