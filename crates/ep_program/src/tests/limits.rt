@@ -55,6 +55,13 @@ pub const CASES: &[Case] = &[
         ..RUN
     },
     Case {
+        name: "without Combinations and exchanges",
+        words: &["run", "trace"],
+        edits: &[(COMBINATION, "")],
+        text: &[UNPREPARED],
+        ..RUN
+    },
+    Case {
         name: "an empty list of Combinations",
         edits: &[(COMBINATION, "combinations = []\n")],
         text: &[UNPREPARED],

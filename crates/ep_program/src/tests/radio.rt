@@ -3,6 +3,7 @@
 use super::cases::{Case, RUN};
 use super::kernels::SECOND;
 use super::purchase::{APPLICATION, CARD, COMBINATION, DIRECTORY, LANE, SCRIPT, VERSION};
+use super::turns::TRACED;
 
 const AMOUNT: &str = "amount = 1000\n";
 
@@ -24,6 +25,24 @@ const SELECTED: &str = "\
 
 const FAILED: &str = "1.1 end link\n";
 
+/// The kernel's command and its answer.
+const KERNEL: &str = "x 1 A 0280a8000002830000182f 16 =02800620000801010090005a6c\n";
+
+/// Where that answer is lost, another one comes to R(NAK).
+const KERNEL_AGAIN: &str = "\
+x 1 A 0280a8000002830000182f 16 -
+x 1 A b267c7 16 =020102900080a6
+";
+
+/// Where the card asks twice for three times as long, and the second answer to it is lost.
+const KERNEL_WAITS: &str = "\
+x 1 A 0280a8000002830000182f 16 =f2038363
+x 1 A f2038363 48 =f2038363
+x 1 A f2038363 48 -
+x 1 A b267c7 16 =f2038363
+x 1 A f2038363 48 =02800620000801010090005a6c
+";
+
 pub const CASES: &[Case] = &[
     Case {
         name: "a lost answer of two",
@@ -32,6 +51,17 @@ pub const CASES: &[Case] = &[
             ("[\"80062000080101009000\"]", "[\"01029000\", \"03049000\"]"),
         ],
         changes: &[("80062000080101009000", "01029000")],
+        ..RUN
+    },
+    Case {
+        name: "a lost answer of two, and the exchanges",
+        words: &["run", "trace"],
+        edits: &[
+            (AMOUNT, "amount = 1000\nfates = [9, \"- x\"]\n"),
+            ("[\"80062000080101009000\"]", "[\"01029000\", \"03049000\"]"),
+        ],
+        text: &[TRACED],
+        changes: &[(KERNEL, KERNEL_AGAIN), ("80062000080101009000", "01029000")],
         ..RUN
     },
     Case {
@@ -103,6 +133,20 @@ pub const CASES: &[Case] = &[
                 "prefix = \"80a8\"\nwtx = 2\nwtxm = 3\n",
             ),
         ],
+        ..RUN
+    },
+    Case {
+        name: "a lost request for more time, and the exchanges",
+        words: &["run", "trace"],
+        edits: &[
+            (AMOUNT, "amount = 1000\nfates = [11, \"x -\"]\n"),
+            (
+                "prefix = \"80a8\"\n",
+                "prefix = \"80a8\"\nwtx = 2\nwtxm = 3\n",
+            ),
+        ],
+        text: &[TRACED],
+        changes: &[(KERNEL, KERNEL_WAITS)],
         ..RUN
     },
     Case {

@@ -7,7 +7,7 @@ use super::purchase::{
 };
 
 /// The purchase with its exchanges.
-const TRACED: &str = "\
+pub const TRACED: &str = "\
 1.1 start type=00 amount=1000
 1.1 pre 1 aid=a0000000031010 kernel=3 allowed=1 status=0 zero=0 floor=0 cvm=0 ttq=-
 1.1 message 15 Present card
@@ -316,6 +316,15 @@ pub const CASES: &[Case] = &[
         words: &["run", "trace"],
         document: UNDIRECTED,
         text: &[FIRST_OPENED, FIRST_TRACED],
+        ..RUN
+    },
+    Case {
+        name: "a purchase whose directory is cut short and its exchanges",
+        words: &["run", "trace"],
+        document: UNDIRECTED,
+        edits: &[(NO_DIRECTORY, "ppse = [\"6f9000\"]\n")],
+        text: &[FIRST_OPENED, FIRST_TRACED],
+        changes: &[("=026a82932f", "=026f9000a139"), (" 6a82\n", " 6f9000\n")],
         ..RUN
     },
     Case {

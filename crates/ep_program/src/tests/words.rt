@@ -55,6 +55,26 @@ fn words_without_input(rt: HostRuntime) -> Result<(), Fail> {
     check_words(&rt, b"a=")
 }
 
+/// The largest load comes to the same line once more, whose first words are those that were given.
+#[test]
+fn a_load_comes_to_one_line(rt: HostRuntime) -> Result<(), Fail> {
+    let words = ["load", "7", "400"];
+    let first = run(&rt, &words, b"", &[1], &[])?;
+    let text = std::str::from_utf8(first.sink.written())?;
+    assert!(rt;
+        text.starts_with("load seed=7 count=400 approved="),
+        "{text}"
+    );
+    let end = End { text, ..LOAD };
+    check(&rt, "a load", &first, &end)?;
+    check(
+        &rt,
+        "the same load",
+        &run(&rt, &words, b"", &[1], &[])?,
+        &end,
+    )
+}
+
 /// The first pull of the input fails, and it is still to come after a load; then all bytes are there.
 #[test]
 fn the_input_is_left_alone(rt: HostRuntime) -> Result<(), Fail> {
