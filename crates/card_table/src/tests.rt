@@ -8,6 +8,7 @@ ghost use Rattle.std.specs.Prelude.{◌≤◌, length, IfOk};
 
 use crate::{Card, TypePlan, cards_of, plans_of};
 use doc_table::{Path, Section, TableEnd};
+use ep_base::CARDS;
 use rf_field::CardPlan;
 use std::alloc::AllocGlobal;
 use std::process::Abort;
@@ -22,7 +23,7 @@ const TABLE: &str = "\
 
 /// What these cards are read as.
 fn cards_in(rt: &(impl Abort + AllocGlobal), text: &str) -> Result<Vec<Card>, TableEnd>
-    ensures { IfOk result (λ v. length v.items ≤ 4) }
+    ensures { IfOk result (λ v. length v.items ≤ CARDS) }
 {
     let document = format!(in rt.alloc(); "cards = [{text}]").ok();
     let document = document.expect(rt, "memory");
