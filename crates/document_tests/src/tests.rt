@@ -153,6 +153,30 @@ fn end_of(rt: &(impl Abort + AllocGlobal), document: &[u8]) -> Result<String, Fa
     }
 }
 
+/// All tables of cases.
+const TABLES: [&str; 12] = [
+    root::ROOT,
+    root::LANES,
+    combination::COMBINATIONS,
+    transaction::TRANSACTIONS,
+    transaction::CARDS,
+    card::CARD_A,
+    card::CARD_B,
+    application::APPLICATIONS,
+    application::RULES,
+    script::SCRIPTS,
+    script::STEPS,
+    order::ORDER,
+];
+
+#[test]
+fn first_faults(rt: HostRuntime) -> Result<(), Fail> {
+    for table in TABLES {
+        check_table(&rt, table)?;
+    }
+    Ok(())
+}
+
 /// Reads the document of each row of a table of cases, and compares what it comes to.
 fn check_table(rt: &(impl Abort + AllocGlobal), table: &str) -> Result<(), Fail> {
     let mut place = "*".to_string(rt.alloc())?;

@@ -1,19 +1,7 @@
 //! The keys of an application on a card, and of its rules.
 
-use super::check_table;
-use std::test::Fail;
-
-#[test]
-fn keys_of_an_application(rt: HostRuntime) -> Result<(), Fail> {
-    check_table(&rt, APPLICATIONS)
-}
-
-#[test]
-fn keys_of_a_rule(rt: HostRuntime) -> Result<(), Fail> {
-    check_table(&rt, RULES)
-}
-
-const APPLICATIONS: &str = r#"
+/// Keys of an application.
+pub const APPLICATIONS: &str = r#"
 at lanes[1].transactions[1].cards[1].apps[1]
 for name = "a0000000041010"
 => Missing @.name 0
@@ -72,7 +60,8 @@ with apps = *\n
 [] => read
 "#;
 
-const RULES: &str = r#"
+/// Keys of a rule.
+pub const RULES: &str = r#"
 at lanes[1].transactions[1].cards[1].apps[1].rules[1]
 for prefix = "80a8"
 => Missing @.prefix 0

@@ -1,19 +1,7 @@
 //! The keys of a card of Type A and of one of Type B.
 
-use super::check_table;
-use std::test::Fail;
-
-#[test]
-fn keys_of_a_card(rt: HostRuntime) -> Result<(), Fail> {
-    check_table(&rt, CARD_A)
-}
-
-#[test]
-fn keys_of_a_card_of_type_b(rt: HostRuntime) -> Result<(), Fail> {
-    check_table(&rt, CARD_B)
-}
-
-const CARD_A: &str = r#"
+/// Keys of a card.
+pub const CARD_A: &str = r#"
 at lanes[1].transactions[1].cards[1]
 for kind = "A"
 => Missing @.kind 0
@@ -118,7 +106,8 @@ with ppse = *
 ['<258:00>', '<258:00>00'] => BadValue @.ppse[2] 518
 "#;
 
-const CARD_B: &str = r#"
+/// Keys of a card of Type B.
+pub const CARD_B: &str = r#"
 at lanes[1].transactions[1].cards[1]
 for kind = "A"\nuid = "01020304"
 kind = 'B' => Missing @.pupi 0

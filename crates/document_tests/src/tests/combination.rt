@@ -1,14 +1,7 @@
 //! The keys of a Combination, and how many there may be.
 
-use super::check_table;
-use std::test::Fail;
-
-#[test]
-fn keys_of_a_combination(rt: HostRuntime) -> Result<(), Fail> {
-    check_table(&rt, COMBINATIONS)
-}
-
-const COMBINATIONS: &str = r#"
+/// Keys of a combination.
+pub const COMBINATIONS: &str = r#"
 at combinations[1]
 for type = 9
 => Missing @.type 0

@@ -1,14 +1,7 @@
 //! Documents with more than one fault: the first one in the order of the tables is told.
 
-use super::check_table;
-use std::test::Fail;
-
-#[test]
-fn keys_in_order(rt: HostRuntime) -> Result<(), Fail> {
-    check_table(&rt, ORDER)
-}
-
-const ORDER: &str = r#"
+/// Keys in order.
+pub const ORDER: &str = r#"
 # the root
 for document
 zz = 1 => UnknownKey . 1

@@ -1,19 +1,7 @@
 //! The keys of the root and of a lane, the turns, and the trace of an earlier run.
 
-use super::check_table;
-use std::test::Fail;
-
-#[test]
-fn keys_of_the_root(rt: HostRuntime) -> Result<(), Fail> {
-    check_table(&rt, ROOT)
-}
-
-#[test]
-fn lanes_and_turns(rt: HostRuntime) -> Result<(), Fail> {
-    check_table(&rt, LANES)
-}
-
-const ROOT: &str = r#"
+/// Keys of the root.
+pub const ROOT: &str = r#"
 for version = 1
 # version
 => Missing version 0
@@ -76,7 +64,8 @@ for amount = 1000
 amount = 1000\namount = -1 => NotToml
 "#;
 
-const LANES: &str = r#"
+/// Lanes and turns.
+pub const LANES: &str = r#"
 for document
 version = 1 => Missing lanes 0
 

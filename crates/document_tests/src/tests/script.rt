@@ -1,19 +1,7 @@
 //! The keys of a script, and of its steps.
 
-use super::check_table;
-use std::test::Fail;
-
-#[test]
-fn keys_of_a_script(rt: HostRuntime) -> Result<(), Fail> {
-    check_table(&rt, SCRIPTS)
-}
-
-#[test]
-fn keys_of_a_step(rt: HostRuntime) -> Result<(), Fail> {
-    check_table(&rt, STEPS)
-}
-
-const SCRIPTS: &str = r#"
+/// Keys of a script.
+pub const SCRIPTS: &str = r#"
 at lanes[1].transactions[1].scripts[1]
 for kernel = 3
 => Missing @.kernel 0
@@ -88,7 +76,8 @@ with outcome = *
 'end 21' => read
 "#;
 
-const STEPS: &str = r#"
+/// Keys of a step.
+pub const STEPS: &str = r#"
 at lanes[1].transactions[1].scripts[1].steps[1]
 for {send = "80ae8000"}
 {} => Missing @.send 0

@@ -1,19 +1,7 @@
 //! The keys of a transaction: its amount, its cards, its rounds and exchanges, its scripts.
 
-use super::check_table;
-use std::test::Fail;
-
-#[test]
-fn keys_of_a_transaction(rt: HostRuntime) -> Result<(), Fail> {
-    check_table(&rt, TRANSACTIONS)
-}
-
-#[test]
-fn cards_of_a_transaction(rt: HostRuntime) -> Result<(), Fail> {
-    check_table(&rt, CARDS)
-}
-
-const TRANSACTIONS: &str = r#"
+/// Keys of a transaction.
+pub const TRANSACTIONS: &str = r#"
 at lanes[1].transactions[1]
 for type = 0
 => Missing @.type 0
@@ -111,7 +99,8 @@ with version = 1\nlanes = [{transactions = [*]}]
 <2:{type = 0, amount = 0, cards = [{kind = 'A', uid = '01020304'}]},> => read
 "#;
 
-const CARDS: &str = r#"
+/// Cards of a transaction.
+pub const CARDS: &str = r#"
 at lanes[1].transactions[1].cards
 for card
 => read

@@ -1,10 +1,34 @@
 //! What the public calls of a scenario say of a document that is accepted.
+//!
+//! A row of the table is `COUNT | LINES | VALUES`: so many lanes, the document's other lines, and what is read: the frame
+//! size code, the exponent, how many lanes, the turns, and of a trace the lane, the waiting number and the frame of each
+//! line.
 
-use super::{DOCUMENT, changed, end_of, spelled};
+use super::{DOCUMENT, end_of, spelled};
 use scenario::Scenario;
 use std::alloc::AllocGlobal;
 use std::process::Abort;
 use std::test::Fail;
+
+const VALUES: &str = r#"
+1 | version = 1 | 8 2 1 []
+1 | version = 0x1 | 8 2 1 []
+1 | version = 1\nfsdi = 3 | 3 2 1 []
+1 | version = 1\nexponent = 0 | 8 0 1 []
+2 | version = 1 | 8 2 2 []
+3 | version = 1 | 8 2 3 []
+4 | version = 1 | 8 2 4 []
+5 | version = 1 | 8 2 5 []
+6 | version = 1 | 8 2 6 []
+7 | version = 1 | 8 2 7 []
+8 | version = 1 | 8 2 8 []
+2 | version = 1\nturns = [] | 8 2 2 []
+2 | version = 1\nturns = [1, 1, 2, 1] | 8 2 2 [1, 1, 2, 1]
+1 | version = 1\nturns = [1] | 8 2 1 [1]
+8 | version = 1\nturns = [8, 1, 0x7] | 8 2 8 [8, 1, 7]
+2 | version = 1\nturns = [<4096:2,>] | 8 2 2 [<4095:2, >2]
+1 | version = 1\ntrace = [] | 8 2 1 [] trace
+1 | version = 1\ntrace = ['x 1 S 52 0 -', 'x 8 A B267c7 16384 =0a'] | 8 2 1 [] trace, 1 0 [82], 8 16384 [178, 103, 199]"#;
 
 /// What a document says that is read.
 fn read(rt: &(impl Abort + AllocGlobal), document: &str) -> Scenario {
@@ -12,29 +36,53 @@ fn read(rt: &(impl Abort + AllocGlobal), document: &str) -> Scenario {
     scenario.expect(rt, document)
 }
 
-/// What the document says with these lines in place of its first.
-fn read_with(rt: &(impl Abort + AllocGlobal), lines: &str) -> Result<Scenario, Fail> {
-    Ok(read(rt, changed(rt, DOCUMENT, "version = 1", lines)?.as_str()))
+/// What is read of a document, as in the table.
+fn told_of(rt: &impl AllocGlobal, scenario: &Scenario) -> Result<String, Fail> {
+    let mut told = format!(in rt.alloc();
+        "{} {} {} {:?}",
+        scenario.fsdi,
+        scenario.config.exponent(),
+        scenario.lanes.len(),
+        scenario.turns.as_slice()
+    )?;
+    let Some(lines) = &scenario.trace else {
+        return Ok(told);
+    };
+    told.push_str(" trace")?;
+    for line in lines {
+        let sent = &line.sent;
+        let one = format!(in rt.alloc();
+            ", {} {} {:?}",
+            sent.lane,
+            sent.wait,
+            sent.frame.as_slice()
+        )?;
+        told.push_str(one.as_str())?;
+    }
+    Ok(told)
 }
 
-/// What a document of so many lanes says, with these lines after them.
-fn read_lanes(
-    rt: &(impl Abort + AllocGlobal),
-    count: usize,
-    lines: &str,
-) -> Result<Scenario, Fail> {
+/// Compares what is read of the document of a row.
+fn check_row(rt: &(impl Abort + AllocGlobal), row: &str) -> Result<(), Fail> {
+    let (count, rest) = row.split_once(" | ").expect(rt, row);
+    let (lines, wanted) = rest.split_once(" | ").expect(rt, row);
     let document = format!(in rt.alloc();
-        "version = 1\nlanes = [<{count}:{{transactions = [{{type = 0, amount = 0}}]}},>]\n{lines}"
+        "{lines}\nlanes = [<{count}:{{transactions = [{{type = 0, amount = 0}}]}},>]\n"
     )?;
-    Ok(read(rt, spelled(rt, document.as_str())?.as_str()))
+    let document = spelled(rt, document.as_str())?;
+    let found = told_of(rt, &read(rt, document.as_str()))?;
+    assert_eq!(rt; found.as_str(), spelled(rt, wanted)?.as_str(), "{row}");
+    Ok(())
 }
 
 #[test]
-fn frame_size_code(rt: HostRuntime) -> Result<(), Fail> {
-    let scenario = read(&rt, DOCUMENT);
-    assert_eq!(rt; (scenario.fsdi, scenario.config.exponent()), (8, 2));
-    let scenario = read_with(&rt, "version = 1\nfsdi = 3")?;
-    assert_eq!(rt; scenario.fsdi, 3);
+fn values_that_are_read(rt: HostRuntime) -> Result<(), Fail> {
+    for row in VALUES.lines().skip(1) {
+        check_row(&rt, row)?;
+    }
+    // Bytes that are no text.
+    let end = end_of(&rt, b"version = '\xff'")?;
+    assert_eq!(rt; end.as_str(), "NotToml");
     Ok(())
 }
 
@@ -51,70 +99,5 @@ fn a_transaction_before_its_first_round(rt: HostRuntime) -> Result<(), Fail> {
     assert_eq!(rt; before, (0, 0, false));
     // One script with one step, and no Combination of the type: two SELECT PPSE, a step, and one more.
     assert_eq!(rt; (field.log().spare(), field.log().records().len()), (4, 0));
-    Ok(())
-}
-
-#[test]
-fn one_to_eight_lanes(rt: HostRuntime) -> Result<(), Fail> {
-    for count in 1..=8 {
-        assert_eq!(rt; read_lanes(&rt, count, "")?.lanes.len(), count);
-    }
-    Ok(())
-}
-
-/// A document of so many lanes with these lines has these turns.
-fn check_turns(
-    rt: &(impl Abort + AllocGlobal),
-    count: usize,
-    lines: &str,
-    wanted: &str,
-) -> Result<(), Fail> {
-    let scenario = read_lanes(rt, count, lines)?;
-    let found = format!(in rt.alloc(); "{:?}", scenario.turns.as_slice())?;
-    assert_eq!(rt; found.as_str(), wanted, "{lines}");
-    Ok(())
-}
-
-#[test]
-fn turns(rt: HostRuntime) -> Result<(), Fail> {
-    check_turns(&rt, 2, "", "[]")?;
-    check_turns(&rt, 2, "turns = []", "[]")?;
-    check_turns(&rt, 2, "turns = [1, 1, 2, 1]", "[1, 1, 2, 1]")?;
-    check_turns(&rt, 1, "turns = [1]", "[1]")?;
-    check_turns(&rt, 8, "turns = [8, 1, 0x7]", "[8, 1, 7]")?;
-    let scenario = read_lanes(&rt, 2, "turns = [<4096:2,>]")?;
-    assert_eq!(rt; scenario.turns.len(), 4096);
-    Ok(())
-}
-
-#[test]
-fn traces(rt: HostRuntime) -> Result<(), Fail> {
-    let absent = read_with(&rt, "version = 0x1")?;
-    assert!(rt; absent.trace.is_none());
-    let empty = read_with(&rt, "version = 1\ntrace = []")?;
-    let lines = empty.trace.expect(&rt, "a trace");
-    assert_eq!(rt; lines.len(), 0);
-    let two = "version = 1\ntrace = ['x 1 S 52 0 -', 'x 8 A B267c7 16384 =0a']";
-    let lines = read_with(&rt, two)?.trace.expect(&rt, "a trace");
-    assert_eq!(rt; lines.len(), 2);
-    let mut told = String::new(rt.alloc());
-    for line in &lines {
-        let sent = &line.sent;
-        let one = format!(in rt.alloc();
-            "{} {} {:?}\n",
-            sent.lane,
-            sent.wait,
-            sent.frame.as_slice()
-        )?;
-        told.push_str(one.as_str())?;
-    }
-    assert_eq!(rt; told.as_str(), "1 0 [82]\n8 16384 [178, 103, 199]\n");
-    Ok(())
-}
-
-#[test]
-fn bytes_that_are_no_text(rt: HostRuntime) -> Result<(), Fail> {
-    let end = end_of(&rt, b"version = '\xff'")?;
-    assert_eq!(rt; end.as_str(), "NotToml");
     Ok(())
 }
