@@ -1,5 +1,5 @@
 //! Transactions that are about to begin, with all the memory that they take.
-ghost use Rattle.std.specs.Prelude.{◌≡◌, ◌+◌, ◌≤◌, length, map, IfOk};
+ghost use Rattle.std.specs.Prelude.{◌≡◌, ◌+◌, ◌≤◌, length, map, IfOk, ◌*◌};
 ghost use Rattle.ep_rules.specs.EntryPoint.Configuration.{count_of};
 ghost use Rattle.ep_rules.specs.EntryPoint.Kernel.{steps_left};
 ghost use Rattle.ep_rules.specs.EntryPoint.Bounds.{log_bound};
