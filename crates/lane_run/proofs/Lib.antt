@@ -1,13 +1,14 @@
 pub mod Appending
 pub mod Beginning
 pub mod Blank
+pub mod ByTrace
 pub mod Closing
 pub mod Comparing
 pub mod Differing
-pub mod Ending
 pub mod Few
 pub mod Finishing
 pub mod Growing
+pub mod Halting
 pub mod Hearing
 pub mod Machining
 pub mod Matching
@@ -23,4 +24,3 @@ pub mod Steps
 pub mod Stopping
 pub mod Talks
 pub mod Texts
-pub mod Tracing

@@ -15,7 +15,7 @@ use Rattle.lane_run.specs.Reports.{HasRun, IsNewWork, LanesOpened, Reports, Repo
 use Rattle.lane_run.specs.Shows.{ReportState, Tells}
 use Rattle.lane_run.specs.Works.{LaneWork, all_jobs}
 use Rattle.lane_run.proofs.Appending.{wrote_since}
-use Rattle.lane_run.proofs.Ending.{part_of_end}
+use Rattle.lane_run.proofs.Halting.{part_of_end}
 use Rattle.lane_run.proofs.Few.{all_short, all_count}
 
 -- the lanes, what they have to do, and the bytes written, beside the state of who answers

@@ -22,7 +22,7 @@ use Rattle.lane_run.specs.Made.{ShownRun, TurnsMade, TurnsCut}
 use Rattle.lane_run.specs.Shows.{ReportState, ShowsLane, Shows, Tells}
 use Rattle.lane_run.specs.Turned.{StepCut, TurnCut, TurnLeft, TurnTaken, TurnUnanswered}
 use Rattle.lane_run.specs.Works.{LaneWork}
-use Rattle.lane_run.proofs.Ending.{part_of_end}
+use Rattle.lane_run.proofs.Halting.{part_of_end}
 
 -- the number that the code has
 pub most_number : most_exchanges ≡ MOST_EXCHANGES

@@ -20,7 +20,7 @@ use std::alloc::Global;
 use std::test::Fail;
 
 // Two transactions in lane 1 and one in lane 2, each with a card that has no directory. The turn list is 2, 2, 1.
-const REPORT: &str = "\
+pub(crate) const REPORT: &str = "\
 1.1 start type=00 amount=1000
 1.1 pre 1 aid=a0000000031010 kernel=3 allowed=1 status=0 zero=0 floor=0 cvm=0 ttq=-
 1.1 message 15 Present card
@@ -54,7 +54,7 @@ const REPORT: &str = "\
 ";
 
 // The same with the trace line of each exchange.
-const TRACED: &str = "\
+pub(crate) const TRACED: &str = "\
 1.1 start type=00 amount=1000
 1.1 pre 1 aid=a0000000031010 kernel=3 allowed=1 status=0 zero=0 floor=0 cvm=0 ttq=-
 1.1 message 15 Present card
@@ -114,7 +114,7 @@ x 1 A c2e0b4 16 =c2e0b4
 1.2 log 1 00a404000e325041592e5359532e444446303100
 ";
 
-fn combination() -> Combination
+pub(crate) fn combination() -> Combination
     ensures { IsCombination result }
 {
     Combination {
@@ -172,7 +172,7 @@ fn job(alloc: Global, config: &Config) -> Result<Job, Fail>
 }
 
 // Two of them in lane 1, and one in lane 2.
-fn works(alloc: Global, config: &Config) -> Result<Vec<LaneJobs>, Fail>
+pub(crate) fn works(alloc: Global, config: &Config) -> Result<Vec<LaneJobs>, Fail>
     ensures new { IfOk result (λ v. All (IsNewWork config.now) v.items) }
     ensures two { IfOk result (λ v. length v.items ≡ 2) }
 {

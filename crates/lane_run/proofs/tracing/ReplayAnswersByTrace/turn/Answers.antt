@@ -1,5 +1,5 @@
 use Rattle.trace_io.specs.Replays.{replaying_of}
-use Rattle.lane_run.proofs.Tracing.{heard_from, well_from, unheard_from, ill_from}
+use Rattle.lane_run.proofs.ByTrace.{heard_from, well_from, unheard_from, ill_from}
 use Rattle.lane_run.proofs.tracing.ReplayAnswersByTrace.turn.Goals as goal
 
 pub returns-in-Ok-clause-turns : goal.returns-in-Ok-clause-turns
