@@ -4,7 +4,7 @@ use Rattle.std.proofs.Math.Nat.{eq-or-lt_of_le}
 use Rattle.std.specs.Prelude.{All}
 use Rattle.std.proofs.lemmas.List.Elements.{All-nil, All-head, All-tail}
 use Rattle.std.proofs.lemmas.Bool.Decides.{nat_tests, leb_tells}
-use Rattle.ep_base.specs.declared.limits.TheConstants.{TYPE_COMBINATIONS}
+use Rattle.ep_base.specs.declared.limits.TheConstants.{COMBINATIONS, TYPE_COMBINATIONS}
 use Rattle.ep_rules.specs.EntryPoint.Configuration.{Combination, Config, IsAmount, IsCombination, AreCombinations, IsConfig, count_of}
 use Rattle.doc_table.specs.declared.list.ElementKind.TheVariants.{Table}
 use Rattle.doc_table.specs.Read.{Place, list_of, integer_in, byte_text, table_of, optional, required, defaulted, truth}
@@ -105,8 +105,8 @@ uncrowded_ok path cs list (Some n) e = cc
 accepted_combinations : Accepts combinations AreCombinations
 accepted_combinations = record {
   is = λ path d list e.
-      after (list_of Table 0 64 combination path d) _ list e (λ cs ok is.
-      let all = (accepted_list Table 0 64 combination IsCombination accepted_combination).is path d cs ok in
+      after (list_of Table 0 COMBINATIONS combination path d) _ list e (λ cs ok is.
+      let all = (accepted_list Table 0 COMBINATIONS combination IsCombination accepted_combination).is path d cs ok in
       let few = uncrowded_ok path cs list (crowd cs) is in
       subst AreCombinations few.1 (record { each = all.each; count = all.most; of_a_type = no_crowd cs all.each few.0 }));
 }

@@ -6,7 +6,7 @@ use Rattle.doc_table.specs.declared.fault.DocKind.TheVariants.{TooMany}
 use Rattle.doc_table.specs.declared.list.ElementKind.TheVariants.{Table}
 use Rattle.doc_table.specs.Read.{◌>>=◌, Reader, Place, defaulted, integer_in, list_of, fails}
 use Rattle.acquirer_config.specs.Combination.{combination}
-use Rattle.ep_base.specs.declared.limits.TheConstants.{TYPE_COMBINATIONS}
+use Rattle.ep_base.specs.declared.limits.TheConstants.{COMBINATIONS, TYPE_COMBINATIONS}
 
 -- Of the types from t on, how many Combinations the first one has that has more than sixteen.
 unfoldable pub crowd_from : ℕ → ℕ → List Combination → Option ℕ
@@ -24,7 +24,7 @@ uncrowded path list (Some n) = fails TooMany path (pos n)
 -- An array of Combinations.
 abbrev pub combinations : Reader (List Combination)
 combinations path d = do
-  list ← list_of Table 0 64 combination path d
+  list ← list_of Table 0 COMBINATIONS combination path d
   uncrowded path list (crowd list)
 
 unfoldable pub config_at : Place → Result Config Fault

@@ -8,7 +8,7 @@ ghost use Rattle.acquirer_config.specs.Config.{crowd, config_at, combinations};
 
 use crate::combination::{Combination, CombinationTable};
 use doc_table::{DocKind, ListOf, Path, Section, TableEnd};
-use ep_base::TYPE_COMBINATIONS;
+use ep_base::{COMBINATIONS, TYPE_COMBINATIONS};
 use std::alloc::Global;
 use std::marker::Model;
 use toml::Table;
@@ -76,7 +76,7 @@ fn combinations(alloc: Global, root: &Section) -> Result<Vec<Combination>, Table
     requires { length root.now.path.now + 40 ≤ 96 }
     ensures { GivesIfRoom (λ v. v.items) result (defaulted [] combinations (codes "combinations") (place root.now)) }
 {
-    let tables = ListOf::tables(0, 64, CombinationTable);
+    let tables = ListOf::tables(0, COMBINATIONS, CombinationTable);
     match root.optional(alloc, "combinations", &tables)? {
         None => Ok(Vec::new(alloc)),
         Some(list) => match crowd(&list) {

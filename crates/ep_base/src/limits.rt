@@ -8,6 +8,9 @@ pub const FRAME: usize = 256;
 /// The same, as the number of a frame's size.
 pub const FRAME_16: u16 = FRAME as u16;
 
+/// The largest FSDI, by which a reader names the largest frame that it takes: of 256 bytes.
+pub const FSDI: u8 = 8;
+
 /// The most bytes of a message: a frame without its two check bytes.
 pub const MESSAGE: usize = FRAME - 2;
 

@@ -8,7 +8,7 @@ use Rattle.std.proofs.lemmas.List.Sums.{length-filter}
 use Rattle.std.proofs.lemmas.List.Elements.{All-nil, All-cons, All-head, All-tail, All-weaker, All-map}
 use Rattle.ep_rules.specs.EntryPoint.Configuration.{Combination, Config, IsConfig, count_of}
 use Rattle.ep_base.specs.Streams.Io.{AppendsPrefix}
-use Rattle.ep_base.specs.declared.limits.TheConstants.{NAMED}
+use Rattle.ep_base.specs.declared.limits.TheConstants.{LANES, NAMED, TRANSACTIONS}
 use Rattle.ep_rules.specs.EntryPoint.Kernel.{steps_left}
 use Rattle.ep_rules.specs.EntryPoint.PreProcessing.{prepared_one, prepared}
 use Rattle.law_radio.proofs.Finding.{new_field_law}
@@ -73,14 +73,14 @@ module _ (settings : Config) (limits : IsConfig settings) (fsdi : ℕ) where
       (All-weaker IsLawful (λ t. IsFresh settings fsdi (work_of settings t)) is_fresh lane is.lawful)
 
 lane_short : (settings : Config) (lane : List Transaction) → IsLane lane → length (map (work_of settings) lane) ≤ 64
-lane_short settings lane is = subst (λ n. n ≤ 64) (sym (length-map lane (work_of settings))) is.short
+lane_short settings lane is = subst (λ n. n ≤ TRANSACTIONS) (sym (length-map lane (work_of settings))) is.short
 
 is_ready : (p : Plan) → IsAccepted p → IsReady (scenario_of p)
 is_ready p accepted = record {
   code = accepted.fsdi;
-  few = subst (λ n. n ≤ 8) (sym (length-map p.lanes (λ lane. map (work_of p.config) lane))) accepted.few;
+  few = subst (λ n. n ≤ LANES) (sym (length-map p.lanes (λ lane. map (work_of p.config) lane))) accepted.few;
   short =
-      All-map (λ lane. length lane ≤ 64) (λ lane. map (work_of p.config) lane) p.lanes
+      All-map (λ lane. length lane ≤ TRANSACTIONS) (λ lane. map (work_of p.config) lane) p.lanes
       (All-weaker IsLane (λ lane. length (map (work_of p.config) lane) ≤ 64) (lane_short p.config) p.lanes accepted.lanes);
   fresh =
       All-map (All (IsFresh p.config p.fsdi)) (λ lane. map (work_of p.config) lane) p.lanes
@@ -99,7 +99,7 @@ map_twice f g (x ∷ xs) = ap (λ l. g (f x) ∷ l) (map_twice f g xs)
 
 module _ (settings : Config) (fsdi : ℕ) where
   abbrev IsShort : List Work → Type 0
-  IsShort lane = length lane ≤ 64
+  IsShort lane = length lane ≤ TRANSACTIONS
 
   new_lane_work : (lane : List Work) → IsShort lane → All (IsFresh settings fsdi) lane → IsNewWork settings (new_work lane)
   new_lane_work lane short fresh = record {
@@ -120,7 +120,7 @@ module _ (settings : Config) (fsdi : ℕ) where
 -- What is to be done by lanes of this kind, each of which holds a list of transactions.
 module _ {V : Type 0} (items : V → List Work) (settings : Config) (lanes : List V) (works : List LaneWork)
     (is : works ≡ map (λ lane. new_work (items lane)) lanes) where
-  pub works_are_new : (fsdi : ℕ) → All (λ lane. length lane ≤ 64) (map items lanes) → All (All (IsFresh settings fsdi)) (map items lanes)
+  pub works_are_new : (fsdi : ℕ) → All (λ lane. length lane ≤ TRANSACTIONS) (map items lanes) → All (All (IsFresh settings fsdi)) (map items lanes)
       → All (IsNewWork settings) works
   works_are_new fsdi short fresh =
       subst (All (IsNewWork settings)) (sym (is ∙ map_twice items new_work lanes)) (new_works settings fsdi (map items lanes) short fresh)

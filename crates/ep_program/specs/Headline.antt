@@ -1,6 +1,7 @@
 -- The transactions of a document's lanes, and when they may begin (this project's own).
 use Rattle.std.specs.Prelude.{ℕ, ◌<◌, ◌≤◌, All, length, None}
 use Rattle.ep_rules.specs.EntryPoint.Configuration.{Config}
+use Rattle.ep_base.specs.declared.limits.TheConstants.{FSDI, LANES, TRANSACTIONS}
 use Rattle.ep_base.specs.Cards.Field.{Field}
 use Rattle.ep_base.specs.Poll.Radio.{Radio}
 use Rattle.ep_rules.specs.EntryPoint.Kernel.{scripted}
@@ -22,9 +23,9 @@ pub record IsFresh (settings : Config) (fsdi : ℕ) (w : Work) : Type 0 where
   pub few : IsFew settings w
   pub room : log_bound (scripted.restarts w.scripts) (length (preparation settings w).list) (scripted.commands w.scripts) < w.field.room
 
--- A scenario whose transactions may begin: at most 8 lanes of at most 64 transactions, and a frame size code of at most 8 (this project's own).
+-- A scenario whose transactions may begin: at most `LANES` lanes of at most `TRANSACTIONS` transactions, and an FSDI of at most `FSDI` (this project's own).
 pub record IsReady (s : Scenario) : Type 0 where
-  pub code : s.fsdi ≤ 8
-  pub few : length s.lanes ≤ 8
-  pub short : All (λ lane. length lane ≤ 64) s.lanes
+  pub code : s.fsdi ≤ FSDI
+  pub few : length s.lanes ≤ LANES
+  pub short : All (λ lane. length lane ≤ TRANSACTIONS) s.lanes
   pub fresh : All (All (IsFresh s.config s.fsdi)) s.lanes

@@ -1,6 +1,7 @@
 //! How a lane's next transaction is opened.
 ghost use Rattle.std.specs.Prelude.{◌≡◌, ◌≢◌, ◌≤◌, ◌+◌, ℕ, true, false, None, IfOk, OnOk, OnErr, IsErr, is_some};
 ghost use Rattle.std.specs.Io.KnownBytes.{Appends};
+ghost use Rattle.ep_base.specs.declared.limits.TheConstants.{FSDI};
 ghost use Rattle.ep_base.specs.Streams.Causes.{HasCause};
 ghost use Rattle.ep_base.specs.Streams.Io.{AppendsPrefix};
 ghost use Rattle.ep_lanes.specs.Lanes.{count_of, has_open, is_live, lane_of};
@@ -36,7 +37,7 @@ fn begin_one<K: Sink, By, A: Answers<By>>(
     output: &mut K,
     events: &mut EventList,
 ) -> Result<bool, SinkFailed>
-    requires code { fsdi ≤ 8 }
+    requires code { fsdi ≤ FSDI }
     requires live { is_live (held_of lanes.old) lane ≡ true }
     requires closed { has_open (held_of lanes.old) lane ≡ false }
     requires none { work.old.field ≡ None }
@@ -94,7 +95,7 @@ pub(crate) fn begin_next<K: Sink, By, A: Answers<By>>(
     output: &mut K,
     events: &mut EventList,
 ) -> Result<(), SinkFailed>
-    requires code { fsdi ≤ 8 }
+    requires code { fsdi ≤ FSDI }
     requires live { is_live (held_of lanes.old) lane ≡ true }
     requires closed { has_open (held_of lanes.old) lane ≡ false }
     requires none { work.old.field ≡ None }

@@ -1,7 +1,7 @@
 //! The replay of all lanes.
 ghost use Rattle.std.specs.Prelude.{◌≡◌, ◌≤◌, All, length, IfErr, OnOk, IsErrAnd, None, is_some};
 ghost use Rattle.ep_base.specs.Streams.Causes.{HasCause};
-ghost use Rattle.ep_base.specs.declared.limits.TheConstants.{LANES};
+ghost use Rattle.ep_base.specs.declared.limits.TheConstants.{FSDI, LANES};
 ghost use Rattle.ep_claim.specs.Lanes.ReplayRun.{begun_replay};
 ghost use Rattle.ep_lanes.specs.Lanes.{new_lanes};
 ghost use Rattle.trace_io.specs.Replays.{replaying_of};
@@ -38,7 +38,7 @@ pub fn replay_lanes<K: Sink>(
     replay: &mut Replay,
     output: &mut K,
 ) -> Result<(), ReplayEnd>
-    requires code { fsdi ≤ 8 }
+    requires code { fsdi ≤ FSDI }
     requires new { held_of lanes.old ≡ new_lanes (length works.old) (held_of lanes.old).order.turns }
     requires few { length works.old ≤ LANES }
     requires works { All (IsNewWork config.now) works.old }

@@ -2,7 +2,7 @@
 ghost use Rattle.std.specs.Prelude.{◌≡◌, ◌≤◌, All, length, IfOk, OnOk, OnErr, IsErr, is_some};
 ghost use Rattle.ep_base.specs.Streams.Causes.{HasCause};
 ghost use Rattle.ep_base.specs.Streams.Io.{AppendsPrefix};
-ghost use Rattle.ep_base.specs.declared.limits.TheConstants.{LANES};
+ghost use Rattle.ep_base.specs.declared.limits.TheConstants.{FSDI, LANES};
 ghost use Rattle.ep_lanes.specs.Lanes.{new_lanes};
 ghost use Rattle.ep_claim.specs.Lanes.WholeRun.{opening_text};
 ghost use Rattle.lane_run.specs.Made.{TurnsCut, TurnsMade};
@@ -53,7 +53,7 @@ pub fn report_lanes<K: Sink, P: Probe>(
     output: &mut K,
     probe: &mut P,
 ) -> Result<(), SinkFailed>
-    requires code { fsdi ≤ 8 }
+    requires code { fsdi ≤ FSDI }
     requires new { held_of lanes.old ≡ new_lanes (length works.old) (held_of lanes.old).order.turns }
     requires few { length works.old ≤ LANES }
     requires works { All (IsNewWork config.now) works.old }
@@ -89,7 +89,7 @@ pub fn run_lanes<K: Sink, By, A: Answers<By>>(
     output: &mut K,
     answers: &mut A,
 ) -> Result<bool, SinkFailed>
-    requires code { fsdi ≤ 8 }
+    requires code { fsdi ≤ FSDI }
     requires new { held_of lanes.old ≡ new_lanes (length works.old) (held_of lanes.old).order.turns }
     requires few { length works.old ≤ LANES }
     requires works { All (IsNewWork config.now) works.old }
@@ -127,7 +127,7 @@ fn open_lanes<K: Sink, By, A: Answers<By>>(
     output: &mut K,
     events: &mut EventList,
 ) -> Result<(), SinkFailed>
-    requires code { fsdi ≤ 8 }
+    requires code { fsdi ≤ FSDI }
     requires new { held_of lanes.old ≡ new_lanes (length works.old) (held_of lanes.old).order.turns }
     requires few { length works.old ≤ LANES }
     requires works { All (IsNewWork config.now) works.old }
@@ -162,7 +162,7 @@ fn make_turns<K: Sink, By, A: Answers<By>>(
     answers: &mut A,
     events: &mut EventList,
 ) -> Result<bool, SinkFailed>
-    requires code { fsdi ≤ 8 }
+    requires code { fsdi ≤ FSDI }
     requires fits { Fits (held_of lanes.old) (all_played A.field_for works.old) }
     ensures ok { IfOk result (TurnsMade A.steps A.has_failed A.plays config.now traced fsdi
         (record { lanes = held_of lanes.old; works = all_played A.field_for works.old; probe = A.state answers.old; written = K.written output.old })

@@ -1,6 +1,7 @@
 //! A turn: one exchange of one lane, and what is written of it.
 ghost use Rattle.std.specs.Prelude.{◌≡◌, ◌≢◌, ◌≤◌, ◌+◌, ◌++◌, ℕ, true, false, not, Some, IfOk, OnOk, OnErr, IsErr, is_some, length};
 ghost use Rattle.std.specs.Io.KnownBytes.{Appends};
+ghost use Rattle.ep_base.specs.declared.limits.TheConstants.{FSDI};
 ghost use Rattle.ep_base.specs.Streams.Causes.{HasCause};
 ghost use Rattle.ep_base.specs.Cards.Field as plain;
 ghost use Rattle.ep_base.specs.Streams.Io.{AppendsPrefix};
@@ -36,7 +37,7 @@ fn close_and_next<K: Sink, By, A: Answers<By>>(
     output: &mut K,
     events: &mut EventList,
 ) -> Result<(), SinkFailed>
-    requires code { fsdi ≤ 8 }
+    requires code { fsdi ≤ FSDI }
     requires live { is_live (held_of lanes.old) lane ≡ true }
     requires closed { has_open (held_of lanes.old) lane ≡ false }
     requires field { is_some work.old.field ≡ true }
@@ -74,7 +75,7 @@ fn go_on<K: Sink, By, A: Answers<By>>(
     output: &mut K,
     events: &mut EventList,
 ) -> Result<(), SinkFailed>
-    requires code { fsdi ≤ 8 }
+    requires code { fsdi ≤ FSDI }
     requires live { is_live (held_of lanes.old) lane ≡ true }
     requires goes { has_open (held_of lanes.old) lane ≡ is_goes turned }
     requires field { is_some work.old.field ≡ true }
@@ -111,7 +112,7 @@ fn turn_lane<K: Sink, By, A: Answers<By>>(
     answers: &mut A,
     events: &mut EventList,
 ) -> Result<bool, SinkFailed>
-    requires code { fsdi ≤ 8 }
+    requires code { fsdi ≤ FSDI }
     requires next { next_lane (held_of lanes.old) ≡ Some lane }
     requires opened { has_open (held_of lanes.old) lane ≡ true }
     requires field { is_some work.old.field ≡ true }
@@ -164,7 +165,7 @@ pub(crate) fn take_turn<K: Sink, By, A: Answers<By>>(
     answers: &mut A,
     events: &mut EventList,
 ) -> Result<bool, SinkFailed>
-    requires code { fsdi ≤ 8 }
+    requires code { fsdi ≤ FSDI }
     requires next { next_lane (held_of lanes.old) ≡ Some lane }
     requires fits { Fits (held_of lanes.old) (all_played A.field_for works.old) }
     ensures ok { IfOk result (λ made. TurnCame A.steps A.plays config.now traced fsdi

@@ -1,7 +1,7 @@
 -- Transactions, lanes and the root of a document (this project's own).
 use Rattle.std.specs.Prelude.{codes, ℕ, List, [], ◌∷◌, length, Result, Ok}
 use Rattle.std.specs.declared.option.Option.{Option}
-use Rattle.ep_base.specs.declared.limits.TheConstants.{LANES, SCRIPTS, TRANSACTIONS}
+use Rattle.ep_base.specs.declared.limits.TheConstants.{FSDI, LANES, SCRIPTS, TRANSACTIONS}
 use Rattle.toml.specs.Data.{Members}
 use Rattle.ep_base.specs.Air.Fates.{Fate}
 use Rattle.ep_rules.specs.EntryPoint.Configuration.{Config}
@@ -72,7 +72,7 @@ lane path d = do
   place ← table_of lane_keys path d
   required (list_of elements.Table 1 TRANSACTIONS transaction) (codes "transactions") place
 
--- The lanes, 1 to 8 (this project's own).
+-- The lanes, 1 to `LANES` (this project's own).
 abbrev pub lanes_at : Place → Result (List (List Transaction)) Fault
 lanes_at root = required (list_of elements.Table 1 LANES lane) (codes "lanes") root
 
@@ -86,7 +86,7 @@ root_keys =
 unfoldable pub plan_at : Place → Result Plan Fault
 plan_at root = do
   version ← required (integer_in 1 1) (codes "version") root
-  fsdi ← defaulted 8 (integer_in 0 8) (codes "fsdi") root
+  fsdi ← defaulted FSDI (integer_in 0 FSDI) (codes "fsdi") root
   config ← config_at root
   lanes ← lanes_at root
   turns ← turns_at (length lanes) root

@@ -1,4 +1,5 @@
 use Rattle.std.proofs.Common.{◌≤◌, ◌∙◌, List, All, length, map, ap, subst, sym, option_map, Some, None, Ok}
+use Rattle.ep_base.specs.declared.limits.TheConstants.{TRANSACTIONS}
 use Rattle.ep_rules.specs.EntryPoint.Kernel.{Scripted}
 use Rattle.ep_claim.specs.Lanes.ReplayRun.{Replaying}
 use Rattle.ep_lanes.specs.Lanes.{Held}
@@ -13,14 +14,14 @@ use Rattle.ep_program.proofs.replay.play.Goals as goal
 
 pub works_of-requires : goal.works_of-requires
 works_of-requires g c =
-    all_map (λ lane. lane.items) (λ (lane : List Work). length lane ≤ 64) c.scenario.inside.lanes.items
-    (subst (λ (s : Scenario). All (λ lane. length lane ≤ 64) s.lanes) (sym c.scenario.view_is) c.requires.ready.short)
+    all_map (λ lane. lane.items) (λ (lane : List Work). length lane ≤ TRANSACTIONS) c.scenario.inside.lanes.items
+    (subst (λ (s : Scenario). All (λ lane. length lane ≤ TRANSACTIONS) s.lanes) (sym c.scenario.view_is) c.requires.ready.short)
 
 pub replay_lanes-requires-clause-works : goal.replay_lanes-requires-clause-works
 replay_lanes-requires-clause-works g c =
     works_are_new (λ lane. lane.items) c.scenario.inside.config c.scenario.inside.lanes.items _
     (c.deref_mut.ensures.value ∙ c.in-Ok.ensures) c.scenario.inside.fsdi
-    (subst (λ (s : Scenario). All (λ lane. length lane ≤ 64) s.lanes) (sym c.scenario.view_is) c.requires.ready.short)
+    (subst (λ (s : Scenario). All (λ lane. length lane ≤ TRANSACTIONS) s.lanes) (sym c.scenario.view_is) c.requires.ready.short)
     (subst (λ (s : Scenario). All (All (IsFresh s.config s.fsdi)) s.lanes) (sym c.scenario.view_is) c.requires.ready.fresh)
 
 pub returns-in-Ok-replay_lanes-clause-plays : goal.returns-in-Ok-replay_lanes-clause-plays

@@ -1,4 +1,5 @@
 use Rattle.std.proofs.Common.{◌≤◌, ◌∙◌, List, All, length, ap, subst, sym}
+use Rattle.ep_base.specs.declared.limits.TheConstants.{TRANSACTIONS}
 use Rattle.ep_rules.specs.EntryPoint.Kernel.{Scripted}
 use Rattle.ep_lanes.specs.Lanes.{Held}
 use Rattle.scenario.specs.Scenario.{Work, Scenario}
@@ -9,14 +10,14 @@ use Rattle.ep_program.proofs.serve.run.Goals as goal
 
 pub works_of-requires : goal.works_of-requires
 works_of-requires g c =
-    all_map (λ lane. lane.items) (λ (lane : List Work). length lane ≤ 64) c.scenario.inside.lanes.items
-    (subst (λ (s : Scenario). All (λ lane. length lane ≤ 64) s.lanes) (sym c.scenario.view_is) c.requires.ready.short)
+    all_map (λ lane. lane.items) (λ (lane : List Work). length lane ≤ TRANSACTIONS) c.scenario.inside.lanes.items
+    (subst (λ (s : Scenario). All (λ lane. length lane ≤ TRANSACTIONS) s.lanes) (sym c.scenario.view_is) c.requires.ready.short)
 
 pub report_lanes-requires-clause-works : goal.report_lanes-requires-clause-works
 report_lanes-requires-clause-works g c =
     works_are_new (λ lane. lane.items) c.scenario.inside.config c.scenario.inside.lanes.items _
     (c.deref_mut.ensures.value ∙ c.in-Ok.ensures) c.scenario.inside.fsdi
-    (subst (λ (s : Scenario). All (λ lane. length lane ≤ 64) s.lanes) (sym c.scenario.view_is) c.requires.ready.short)
+    (subst (λ (s : Scenario). All (λ lane. length lane ≤ TRANSACTIONS) s.lanes) (sym c.scenario.view_is) c.requires.ready.short)
     (subst (λ (s : Scenario). All (All (IsFresh s.config s.fsdi)) s.lanes) (sym c.scenario.view_is) c.requires.ready.fresh)
 
 pub returns-in-Ok-report_lanes-clause-runs : goal.returns-in-Ok-report_lanes-clause-runs
