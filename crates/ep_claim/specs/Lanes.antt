@@ -1,4 +1,5 @@
 -- Lanes.
+pub mod Probing
 pub mod WholeReplay
 pub mod Apart
 pub mod Counting

@@ -1,6 +1,5 @@
 pub mod Causes
 pub mod Lanes
-pub mod Probing
 pub mod Saying
 pub mod Scripted
 pub mod Turns

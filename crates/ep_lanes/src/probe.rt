@@ -1,7 +1,7 @@
 //! Probes: what may alter the hearings of a reader.
 ghost use Rattle.std.specs.Prelude.{ℕ};
 ghost use Rattle.rf_frame.specs.Meaning.{heard_of};
-ghost use Rattle.ep_lanes.specs.Probing.{ProbeAnswers};
+ghost use Rattle.ep_claim.specs.Lanes.Probing.{ProbeAnswers};
 
 use rf_frame::{Ask, Heard};
 
@@ -27,7 +27,7 @@ pub trait Probe {
 pub struct Open;
 
 impl Probe for Open {
-    ghost use Rattle.ep_lanes.specs.Probing.{told};
+    ghost use Rattle.ep_claim.specs.Lanes.Probing.{told};
     ghost use Rattle.ep_claim.specs.Lanes.WholeRun.{open_probe};
 
     ghost State = { Unit {0} };

@@ -207,7 +207,7 @@ struct Deaf {
 }
 
 impl Probe for Deaf {
-    ghost use Rattle.ep_lanes.specs.Probing.{untold};
+    ghost use Rattle.ep_claim.specs.Lanes.Probing.{untold};
 
     ghost State = { Unit {0} };
 

@@ -2,11 +2,10 @@
 use Rattle.std.proofs.Common.{◌≡◌, ◌≤◌, ℕ, zero, suc, ◌+◌, ◌==◌, List, [], ◌∷◌, ◌++◌, length, true, refl, arith}
 use Rattle.std.specs.Prelude.{replicate}
 use Rattle.std.proofs.lemmas.List.Elements.{All-cons, All-nil}
-use Rattle.ep_base.specs.Air.Fates.{Fate, AreFates}
+use Rattle.ep_base.specs.Air.Fates.{Fate, AreFates, clean_fate}
 use Rattle.ep_base.specs.Cards.Apdu.{is_command}
 use Rattle.ep_rules.specs.EntryPoint.Kernel.{Script}
 use Rattle.ep_rules.specs.EntryPoint.Event.{Verdict}
-use Rattle.rf_field.specs.Meaning.{clean_fate}
 use Rattle.card_table.specs.Cards.{IsCard}
 use Rattle.card_table.proofs.Numbered.{all_placed, all_distinct}
 use Rattle.scenario.specs.Accepted.{IsLawful}

@@ -1,7 +1,6 @@
 -- What becomes of the frames of a load (this project's own).
 use Rattle.std.specs.Prelude.{◌+◌, ◌==◌, List, [], ◌∷◌, ◌++◌, replicate, if◌then◌else◌}
-use Rattle.ep_base.specs.Air.Fates.{Fate, Passes, Loses, Leaves}
-use Rattle.rf_field.specs.Meaning.{clean_fate}
+use Rattle.ep_base.specs.Air.Fates.{Fate, Passes, Loses, Leaves, clean_fate}
 use Rattle.ep_load.specs.Draws.{Draws}
 
 -- Every card leaves before the frame comes to it (this project's own).

@@ -4,7 +4,7 @@ use Rattle.std.specs.declared.option.Option.{Option}
 use Rattle.ep_base.specs.Streams.Io.{Takes}
 use Rattle.ep_base.specs.declared.limits.TheConstants.{INPUT}
 use Rattle.ep_base.proofs.Known.{consumes_none}
-use Rattle.ep_lanes.specs.Probing.{ProbeAnswers}
+use Rattle.ep_claim.specs.Lanes.Probing.{ProbeAnswers}
 use Rattle.scenario.specs.Scenario.{Scenario}
 use Rattle.ep_program.specs.Input.{IsTooLong}
 use Rattle.ep_program.specs.Load.{Loads}

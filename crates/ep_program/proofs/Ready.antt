@@ -16,9 +16,9 @@ use Rattle.ep_claim.specs.Lanes.LaneText.{Job}
 use Rattle.ep_claim.specs.Lanes.WholeRun.{ProbeSteps}
 use Rattle.card_table.specs.Placing.{placed_from}
 use Rattle.ep_lanes.specs.Lanes.{Held, new_lanes}
-use Rattle.ep_lanes.specs.Probing.{ProbeAnswers}
-use Rattle.lane_run.specs.Reports.{HasRun, IsFew, IsNewWork}
-use Rattle.lane_run.specs.Shows.{Tells}
+use Rattle.ep_claim.specs.Lanes.Probing.{ProbeAnswers, Tells}
+use Rattle.lane_run.specs.Reports.{IsFew, IsNewWork}
+use Rattle.ep_claim.specs.Lanes.Ending.{HasRun}
 use Rattle.lane_run.specs.Works.{LaneWork, new_work, all_jobs, jobs_of}
 use Rattle.scenario.specs.Accepted.{IsLawful, IsLane, IsAccepted}
 use Rattle.scenario.specs.Jobs.{job_of, jobs_in}

@@ -4,9 +4,8 @@ use Rattle.std.specs.declared.option.Option.{Option}
 use Rattle.std.specs.Io.KnownBytes.{Appends, Keeps}
 use Rattle.ep_base.specs.Streams.Io.{AppendsPrefix}
 use Rattle.ep_claim.specs.Lanes.WholeRun.{ProbeSteps}
-use Rattle.ep_lanes.specs.Probing.{ProbeAnswers}
-use Rattle.lane_run.specs.Reports.{HasRun}
-use Rattle.lane_run.specs.Shows.{Tells}
+use Rattle.ep_claim.specs.Lanes.Probing.{ProbeAnswers, Tells}
+use Rattle.ep_claim.specs.Lanes.Ending.{HasRun}
 use Rattle.scenario.specs.Jobs.{jobs_in}
 use Rattle.scenario.specs.Plan.{Plan}
 use Rattle.scenario.specs.Scenario.{Scenario, scenario_of}

@@ -6,9 +6,9 @@ use Rattle.std.proofs.lemmas.List.Elements.{All-nil, All-cons, All-head, All-tai
 use Rattle.std.proofs.lemmas.Bool.Decides.{nat_tests}
 use Rattle.ep_base.specs.declared.limits.TheConstants.{FATES, ROUNDS}
 use Rattle.toml.specs.Data.{Items, as_array, as_str}
-use Rattle.ep_base.specs.Air.Fates.{Fate, AreFates}
+use Rattle.ep_base.specs.Air.Fates.{Fate, AreFates, clean_fate}
 use Rattle.rf_field.specs.declared.fates.FateRun.{FateRun}
-use Rattle.rf_field.specs.Meaning.{clean_fate, run_of, exchange_fates, IsRun}
+use Rattle.rf_field.specs.Meaning.{run_of, exchange_fates, IsRun}
 use Rattle.doc_table.specs.Fault.{Fault}
 use Rattle.doc_table.specs.declared.fault.TableEnd.{TableEnd}
 use Rattle.doc_table.specs.declared.fault.TableEnd.TheVariants.{NoMemory}

@@ -2,10 +2,10 @@
 use Rattle.std.proofs.Common.{◌≡◌, ℕ, suc, zero, ◌<◌, List, [], ◌∷◌, ◌++◌, length, map, replicate, refl, ap, arith}
 use Rattle.std.specs.Prelude.{All, flat_map}
 use Rattle.std.proofs.lemmas.List.Elements.{All-nil, All-cons, All-head, All-tail}
-use Rattle.ep_base.specs.Air.Fates.{Fate, AreFates}
+use Rattle.ep_base.specs.Air.Fates.{Fate, AreFates, clean_fate}
 use Rattle.rf_field.specs.declared.fates.FateRun.{FateRun}
 use Rattle.rf_field.specs.declared.fates.FateRun.TheVariants.{Clean, One}
-use Rattle.rf_field.specs.Meaning.{IsRun, clean_fate, run_of, exchange_fates}
+use Rattle.rf_field.specs.Meaning.{IsRun, run_of, exchange_fates}
 
 -- All runs' exchanges are the exchanges of each run, joined.
 pub joined : (runs : List FateRun) → flat_map (λ (exchanges : List Fate). exchanges) (map run_of runs) ≡ exchange_fates runs

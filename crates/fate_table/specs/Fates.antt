@@ -2,8 +2,7 @@
 use Rattle.std.specs.Prelude.{codes, pos, List, [], ◌∷◌, length, replicate, flat_map, Result, Ok, if◌then◌else◌}
 use Rattle.ep_base.specs.declared.limits.TheConstants.{FATES}
 use Rattle.toml.specs.Data.{as_array, as_str}
-use Rattle.ep_base.specs.Air.Fates.{Fate}
-use Rattle.rf_field.specs.Meaning.{clean_fate}
+use Rattle.ep_base.specs.Air.Fates.{Fate, clean_fate}
 use Rattle.doc_table.specs.Fault.{Fault}
 use Rattle.doc_table.specs.declared.list.ElementKind.TheVariants.{Integer}
 use Rattle.doc_table.specs.Read.{◌>>=◌, Reader, Place, of_kind, allowed, defaulted, integer_in, is_of, counted, each}

@@ -11,7 +11,7 @@ use Rattle.ep_claim.specs.Lanes.ReplayRun.{Replaying, at_lane, replay}
 use Rattle.ep_claim.specs.Lanes.WholeReplay.{compared_at, trace_probe}
 use Rattle.ep_claim.specs.Lanes.WholeRun.{open_probe}
 use Rattle.ep_lanes.specs.Lanes.{Held, LaneHeld}
-use Rattle.ep_lanes.specs.Probing as probes
+use Rattle.ep_claim.specs.Lanes.Probing as probes
 use Rattle.ep_lanes.specs.Turns.{Fails, Turns}
 use Rattle.ep_lanes.specs.declared.exchange.Turned.{Turned}
 use Rattle.lane_run.specs.Turned.{HeardTurn, UnheardTurn}

@@ -9,7 +9,7 @@ use Rattle.ep_claim.specs.Lanes.ReplayRun.{Mismatch, Replaying, begun_replay, en
 use Rattle.ep_claim.specs.Lanes.WholeReplay.{ReplayEnds, Stops, cardless, mismatch_after, no_cards, replay_after, trace_probe, turn_unless, without_cards}
 use Rattle.ep_claim.specs.Lanes.WholeRun.{Run, is_live, run_step, takes_turn}
 use Rattle.ep_claim.specs.Text.TraceLine.{TraceLine}
-use Rattle.ep_lanes.specs.Probing.{told}
+use Rattle.ep_claim.specs.Lanes.Probing.{told}
 use Rattle.scenario.specs.Jobs.{job_of, talk_in}
 use Rattle.scenario.specs.Scenario.{Work}
 use Rattle.lane_run.specs.Works.{LaneWork, all_jobs}

@@ -16,11 +16,11 @@ use Rattle.ep_claim.specs.Lanes.Standing.{asked_by, events_of}
 use Rattle.ep_claim.specs.Lanes.LaneText.{Going, Piece, added_events, goes_on, heard_lane, trace_part}
 use Rattle.ep_claim.specs.Lanes.WholeRun.{ProbeSteps}
 use Rattle.ep_lanes.specs.Lanes.{Held, LaneHeld, Made, lane_of}
-use Rattle.ep_lanes.specs.Probing.{ProbeAnswers}
+use Rattle.ep_claim.specs.Lanes.Probing.{ProbeAnswers, Tells}
 use Rattle.ep_lanes.specs.Turns.{Makes}
 use Rattle.ep_lanes.specs.declared.exchange.Turned.{Turned}
 use Rattle.ep_lanes.proofs.Standing.{asks_then}
-use Rattle.lane_run.specs.Shows.{ShowsGoing, Tells}
+use Rattle.lane_run.specs.Shows.{ShowsGoing}
 use Rattle.lane_run.specs.Turned.{HeardTurn, IsAfter, TurnPart, TurnStopped, TurnWrote, UnheardTurn, Wrote, heard_by, turn_piece}
 use Rattle.scenario.specs.Jobs.{job_of}
 use Rattle.lane_run.specs.Works.{LaneWork}

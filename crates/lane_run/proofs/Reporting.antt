@@ -6,13 +6,14 @@ use Rattle.ep_base.specs.Cards.Field.{Field}
 use Rattle.ep_base.specs.Streams.Io.{AppendsPrefix}
 use Rattle.ep_rules.specs.EntryPoint.Kernel.{Scripted}
 use Rattle.ep_lanes.specs.Lanes.{Held}
-use Rattle.ep_lanes.specs.Probing.{ProbeAnswers}
+use Rattle.ep_claim.specs.Lanes.Probing.{ProbeAnswers, Tells}
 use Rattle.ep_claim.specs.Lanes.LaneText.{Job}
 use Rattle.ep_claim.specs.Lanes.WholeRun.{ProbeSteps, opening_text, run_after}
 use Rattle.lane_run.specs.Ends.{RunEnds, state_then}
 use Rattle.lane_run.specs.Made.{ShownRun, TurnsMade, TurnsCut}
-use Rattle.lane_run.specs.Reports.{HasRun, IsNewWork, LanesOpened, Reports, ReportsPart, RunsPart, RunsTo}
-use Rattle.lane_run.specs.Shows.{ReportState, Tells}
+use Rattle.lane_run.specs.Reports.{IsNewWork, LanesOpened, Reports, ReportsPart, RunsPart, RunsTo}
+use Rattle.ep_claim.specs.Lanes.Ending.{HasRun}
+use Rattle.lane_run.specs.Shows.{ReportState}
 use Rattle.lane_run.specs.Works.{LaneWork, all_jobs}
 use Rattle.lane_run.proofs.Appending.{wrote_since}
 use Rattle.lane_run.proofs.Halting.{part_of_end}

@@ -7,7 +7,7 @@ use Rattle.ep_base.specs.Streams.Io.{AppendsPrefix}
 use Rattle.ep_rules.specs.EntryPoint.Kernel.{Scripted}
 use Rattle.ep_claim.specs.Lanes.Steps.{times}
 use Rattle.ep_lanes.specs.Lanes.{LaneHeld, lane_of, is_live, count_of, next_of, lane_in, next_lane}
-use Rattle.ep_lanes.specs.Probing.{ProbeAnswers}
+use Rattle.ep_claim.specs.Lanes.Probing.{ProbeAnswers, Tells}
 use Rattle.ep_lanes.proofs.Ordering.{same_turn}
 use Rattle.ep_claim.specs.Lanes.Ending.{HasEnded}
 use Rattle.law_turns.specs.Growing.{most_exchanges, most_of_one}
@@ -19,7 +19,7 @@ use Rattle.law_turns.proofs.Growing.{runs_end_in_most_law}
 use Rattle.law_turns.proofs.Stepping.{times_end}
 use Rattle.lane_run.specs.declared.run.TheConstants.{MOST_EXCHANGES}
 use Rattle.lane_run.specs.Made.{ShownRun, TurnsMade, TurnsCut}
-use Rattle.lane_run.specs.Shows.{ReportState, ShowsLane, Shows, Tells}
+use Rattle.lane_run.specs.Shows.{ReportState, ShowsLane, Shows}
 use Rattle.lane_run.specs.Turned.{StepCut, TurnCut, TurnLeft, TurnTaken, TurnUnanswered}
 use Rattle.lane_run.specs.Works.{LaneWork}
 use Rattle.lane_run.proofs.Halting.{part_of_end}

@@ -13,7 +13,7 @@ use Rattle.ep_claim.specs.Lanes.Order.{Order, next_turn}
 use Rattle.ep_claim.specs.Lanes.WholeRun.{ProbeSteps, Run, makes_exchange, run_step, takes_turn, turn_of}
 use Rattle.ep_claim.specs.Lanes.WholeRun as runs
 use Rattle.ep_lanes.specs.Lanes.{Held, LaneHeld, OpenTransaction, count_of, is_live, lane_of, next_lane, next_of}
-use Rattle.ep_lanes.specs.Probing.{ProbeAnswers}
+use Rattle.ep_claim.specs.Lanes.Probing.{ProbeAnswers}
 use Rattle.ep_lanes.proofs.Numbering.{live_there}
 use Rattle.ep_lanes.proofs.Ordering.{next_live, same_turn}
 use Rattle.ep_lanes.proofs.Standing.{asks_then}

@@ -6,10 +6,10 @@ use Rattle.ep_base.specs.Streams.Io.{AppendsPrefix}
 use Rattle.law_turns.specs.Growing.{AreShort}
 use Rattle.ep_claim.specs.Lanes.LaneText.{Job}
 use Rattle.ep_claim.specs.Lanes.WholeRun.{ProbeSteps, opened_run, run_after}
-use Rattle.ep_lanes.specs.Probing.{ProbeAnswers}
+use Rattle.ep_claim.specs.Lanes.Probing.{ProbeAnswers, Tells}
 use Rattle.lane_run.specs.Written.{with_text}
 use Rattle.lane_run.specs.Ends.{AreAnswered, GoesNoFurther, state_then}
-use Rattle.lane_run.specs.Shows.{ReportState, Shows, Tells}
+use Rattle.lane_run.specs.Shows.{ReportState, Shows}
 
 -- A run of so many short lanes that were just opened, which is shown, with the steps that the probe has (this project's own).
 pub record ShownRun {P : Type 0} (answers : ProbeAnswers P) (plays : Option Field → Field → Type 0) (settings : Config) (fsdi : ℕ) (before : ReportState P) : Type 0 where

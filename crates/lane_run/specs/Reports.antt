@@ -7,22 +7,14 @@ use Rattle.ep_base.specs.Streams.Io.{AppendsPrefix}
 use Rattle.ep_base.specs.declared.limits.TheConstants.{SCRIPTS, STEPS, TRANSACTIONS, TYPE_COMBINATIONS}
 use Rattle.ep_rules.specs.EntryPoint.Kernel.{Script}
 use Rattle.ep_rules.specs.EntryPoint.KernelCommands.{ScriptedSends}
-use Rattle.ep_claim.specs.Lanes.Ending.{HasEnded}
+use Rattle.ep_claim.specs.Lanes.Ending.{HasRun}
 use Rattle.ep_claim.specs.Lanes.LaneText.{Job}
 use Rattle.ep_claim.specs.Lanes.WholeRun.{ProbeSteps, opened_run, run_after}
-use Rattle.ep_lanes.specs.Probing.{ProbeAnswers}
+use Rattle.ep_claim.specs.Lanes.Probing.{ProbeAnswers, Tells}
 use Rattle.scenario.specs.Scenario.{Work}
 use Rattle.lane_run.specs.Ends.{RunEnds}
-use Rattle.lane_run.specs.Shows.{ReportState, Shows, Tells}
+use Rattle.lane_run.specs.Shows.{ReportState, Shows}
 use Rattle.lane_run.specs.Works.{LaneWork, all_jobs}
-
--- A run is over after some count of exchanges; this is its text then, and this the probe's state (this project's own).
-pub record HasRun {P : Type 0} (traced : Bool) (steps : ProbeSteps P) (fsdi : ℕ) (turns : List ℕ) (p : P) (lanes : List (List Job))
-    (text : List ℕ) (q : P) : Type 0 where
-  pub exchanges : ℕ
-  pub over : HasEnded (length lanes) (run_after traced steps fsdi turns p lanes exchanges)
-  pub text_is : text ≡ (run_after traced steps fsdi turns p lanes exchanges).text
-  pub probe_is : q ≡ (run_after traced steps fsdi turns p lanes exchanges).probe
 
 -- A transaction whose kernels run no script yet and send commands alone: at most `SCRIPTS` scripts, of at most `STEPS` steps each, and at most
 -- `TYPE_COMBINATIONS` Combinations of its type (this project's profile).

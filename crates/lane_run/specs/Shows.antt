@@ -1,14 +1,12 @@
 -- When lanes and what they have to do show a run (this project's own).
 use Rattle.std.specs.Prelude.{◌≡◌, ℕ, true, List, length, Option, Some, None, is_some}
 use Rattle.ep_rules.specs.EntryPoint.Configuration.{Config}
-use Rattle.ep_base.specs.Air.Heard.{Ask, Heard}
 use Rattle.ep_base.specs.Cards.Field.{Field}
 use Rattle.ep_rules.specs.EntryPoint.Kernel.{Scripted, scripted}
 use Rattle.ep_lanes.specs.Lanes.{LaneHeld, Held, no_lane, lane_of, count_of}
-use Rattle.ep_lanes.specs.Probing.{ProbeAnswers}
 use Rattle.ep_lanes.specs.Turns.{Stands}
 use Rattle.ep_claim.specs.Lanes.LaneText.{Going}
-use Rattle.ep_claim.specs.Lanes.WholeRun.{ProbeSteps, Run}
+use Rattle.ep_claim.specs.Lanes.WholeRun.{Run}
 use Rattle.lane_run.specs.Works.{LaneWork, work_of, jobs_of}
 use Rattle.lane_run.specs.Written.{with_text}
 
@@ -52,8 +50,3 @@ pub record Shows {P : Type 0} (plays : Option Field → Field → Type 0) (setti
   pub order : s.lanes.order ≡ run.order
   pub probe : s.probe ≡ run.probe
   pub text : s.written ≡ with_text start run.text
-
--- The probe's answers are those of these steps (this project's own).
-abbrev pub Tells : {P : Type 0} → ProbeAnswers P → ProbeSteps P → Type 0
-Tells {P} answers steps =
-    (p : P) (lane : ℕ) (ask : Ask) (given heard : Heard) (q : P) → answers.hears p lane ask given heard q → steps.hear p lane ask given ≡ (q, heard)

@@ -14,10 +14,10 @@ use Rattle.ep_claim.specs.Lanes.LaneText.{Going, Piece, after_text, goes_on, hea
 use Rattle.ep_claim.specs.Lanes.Order.{next_turn}
 use Rattle.ep_claim.specs.Lanes.WholeRun.{ProbeSteps, Run, is_live, run_step}
 use Rattle.ep_lanes.specs.Lanes.{Held, LaneHeld, OpenTransaction}
-use Rattle.ep_lanes.specs.Probing.{ProbeAnswers}
+use Rattle.ep_claim.specs.Lanes.Probing.{ProbeAnswers, Tells}
 use Rattle.ep_lanes.specs.Turns as turns
 use Rattle.ep_lanes.specs.declared.exchange.Turned.{Turned}
-use Rattle.lane_run.specs.Shows.{ReportState, Shows, ShowsGoing, ShowsLane, Tells}
+use Rattle.lane_run.specs.Shows.{ReportState, Shows, ShowsGoing, ShowsLane}
 use Rattle.lane_run.specs.Works.{LaneWork, jobs_of}
 
 -- One turn of this lane over a field that stands for that of its open transaction, and is left so (this project's own).

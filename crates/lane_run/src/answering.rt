@@ -3,7 +3,7 @@ ghost use Rattle.std.specs.Prelude.{◌≡◌, ◌≢◌, ℕ, Bool, true, false
 ghost use Rattle.arrayvec.specs.ArrayVec.{array_vec_len};
 ghost use Rattle.ep_base.specs.Cards.Field as plain;
 ghost use Rattle.ep_lanes.specs.Lanes.{count_of, has_open, is_live, lane_of, next_lane, next_of};
-ghost use Rattle.ep_lanes.specs.Probing.{ProbeAnswers};
+ghost use Rattle.ep_claim.specs.Lanes.Probing.{ProbeAnswers};
 ghost use Rattle.ep_lanes.specs.Saying.{is_goes};
 ghost use Rattle.ep_lanes.specs.Scripted.{held_of};
 ghost use Rattle.lane_run.specs.Turned.{HeardTurn, UnheardTurn};

@@ -15,7 +15,7 @@ impl Answers<ByTrace> for Replay {
     ghost use Rattle.std.specs.Prelude.{is_some, refl};
     ghost use Rattle.ep_claim.specs.Lanes.ReplayRun.{Replaying};
     ghost use Rattle.ep_claim.specs.Lanes.WholeReplay.{no_cards, trace_probe};
-    ghost use Rattle.ep_lanes.specs.Probing.{told};
+    ghost use Rattle.ep_claim.specs.Lanes.Probing.{told};
     ghost use Rattle.lane_run.specs.Blank.{IsBlank, no_cards_blank};
     ghost use Rattle.trace_io.specs.Replays.{replaying_of};
 

@@ -5,7 +5,7 @@ use Rattle.ep_base.specs.declared.air.CardKind.{CardKind}
 use Rattle.ep_base.specs.Air.Medium.{told}
 use Rattle.ep_base.specs.Link.Dialogue.{opened_reader}
 use Rattle.ep_base.specs.Cards.CardAnswer.{Image, IsImage}
-use Rattle.ep_base.specs.Air.Fates.{Fate, AreFates}
+use Rattle.ep_base.specs.Air.Fates.{Fate, AreFates, clean_fate}
 use Rattle.ep_base.specs.Link.LinkFrames.{LinkSetting}
 use Rattle.ep_base.specs.Link.Wire.{Wire, wire, new_wire}
 use Rattle.ep_base.specs.Link.Carry.{ActsAs, OfLink, Executed}
@@ -15,7 +15,7 @@ use Rattle.card_image.proofs.Kept.{card_answer_keeps}
 use Rattle.link.specs.Carried.{Agrees}
 use Rattle.rf_field.specs.declared.fates.FateRun.{FateRun}
 use Rattle.rf_field.specs.declared.fates.FateRun.TheVariants.{Clean, One}
-use Rattle.rf_field.specs.Meaning.{IsRun, clean_fate, run_of, exchange_fates}
+use Rattle.rf_field.specs.Meaning.{IsRun, run_of, exchange_fates}
 use Rattle.link_tests.specs.Open.{IsReady}
 
 fates_append : (xs ys : List Fate) → AreFates xs → AreFates ys → AreFates (xs ++ ys)

@@ -2,9 +2,9 @@
 use Rattle.std.proofs.Common.{◌≡◌, ℕ, zero, suc, ◌+◌, ◌-◌, ◌<◌, ◌≤◌, List, ◌++◌, length, drop, get_or, All, replicate, refl, sym, ap, ◌∙◌, subst, arith}
 use Rattle.std.proofs.lemmas.List.{at_drop_more}
 use Rattle.std.proofs.lemmas.List.Elements.{All-get_or}
-use Rattle.ep_base.specs.Air.Fates.{Fate, next_fate, fates_after}
+use Rattle.ep_base.specs.Air.Fates.{Fate, next_fate, fates_after, clean_fate}
 use Rattle.rf_field.specs.declared.fates.FateRun.{FateRun}
-use Rattle.rf_field.specs.Meaning.{IsRun, clean_fate, run_of, exchange_fates}
+use Rattle.rf_field.specs.Meaning.{IsRun, run_of, exchange_fates}
 
 pub left_at : (runs : List FateRun) (at clean : ℕ) (run is_run : FateRun) (now : List Fate) → clean ≡ 0 → at < length runs → run ≡ get_or runs at run → run ≡ is_run → replicate clean clean_fate ++ exchange_fates (drop at runs) ≡ now → run_of is_run ++ exchange_fates (drop (at + 1) runs) ≡ now
 left_at runs at clean run is_run now none within found same is =

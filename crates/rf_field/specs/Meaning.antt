@@ -1,6 +1,6 @@
 -- What the fates of frames stand for in plain data (this project's own).
 use Rattle.std.specs.Prelude.{◌≤◌, List, [], ◌∷◌, ◌++◌, replicate}
-use Rattle.ep_base.specs.Air.Fates.{Way as WayData, Passes, Loses, Bursts, Leaves, IsWay, Fate as FateData}
+use Rattle.ep_base.specs.Air.Fates.{Way as WayData, Passes, Loses, Bursts, Leaves, IsWay, Fate as FateData, clean_fate}
 use Rattle.rf_field.specs.declared.fates.Way.{Way}
 use Rattle.rf_field.specs.declared.fates.Way.TheVariants as way
 use Rattle.rf_field.specs.declared.fates.Fate.{Fate}
@@ -17,10 +17,6 @@ way_of way.Leave = Leaves
 -- What becomes of the frames of one exchange.
 abbrev pub fate_of : Fate → FateData
 fate_of f = record { down = way_of f.down; up = way_of f.up }
-
--- All frames pass.
-abbrev pub clean_fate : FateData
-clean_fate = record { down = Passes; up = Passes }
 
 -- The exchanges of a run, one by one.
 abbrev pub run_of : FateRun → List FateData

@@ -23,8 +23,8 @@ pub(crate) struct Fates {
 
 impl Model for Fates {
     ghost use Rattle.std.specs.Prelude.{List, ◌++◌, replicate, drop, All};
-    ghost use Rattle.ep_base.specs.Air.Fates.{Fate as FateData};
-    ghost use Rattle.rf_field.specs.Meaning.{IsRun, clean_fate, exchange_fates};
+    ghost use Rattle.ep_base.specs.Air.Fates.{Fate as FateData, clean_fate};
+    ghost use Rattle.rf_field.specs.Meaning.{IsRun, exchange_fates};
 
     ghost Value = { List FateData };
 

@@ -30,9 +30,13 @@ pub record Air : Type 0 where
   pub fates : List Fate
   pub gone : Bool
 
+-- All frames of an exchange pass.
+abbrev pub clean_fate : Fate
+clean_fate = record { down = Passes; up = Passes }
+
 -- The next fate; after the list's end all frames pass.
 abbrev pub next_fate : List Fate → Fate
-next_fate [] = record { down = Passes; up = Passes }
+next_fate [] = clean_fate
 next_fate (f ∷ fs) = f
 
 abbrev pub fates_after : List Fate → List Fate

@@ -29,6 +29,14 @@ in_all (ns ∷ rest) = sum ns + in_all rest
 abbrev pub HasEnded : {P : Type 0} → ℕ → Run P → Type 0
 HasEnded count run = next_turn (is_live run) count run.order ≡ None
 
+-- A run is over after some count of exchanges; this is its text then, and this the probe's state (this project's own).
+pub record HasRun {P : Type 0} (traced : Bool) (steps : ProbeSteps P) (fsdi : ℕ) (turns : List ℕ) (p : P) (lanes : List (List Job))
+    (text : List ℕ) (q : P) : Type 0 where
+  pub exchanges : ℕ
+  pub over : HasEnded (length lanes) (run_after traced steps fsdi turns p lanes exchanges)
+  pub text_is : text ≡ (run_after traced steps fsdi turns p lanes exchanges).text
+  pub probe_is : q ≡ (run_after traced steps fsdi turns p lanes exchanges).probe
+
 -- Whatever the probe makes of the hearings, the run is over after the exchanges of all its transactions together (this project's own).
 abbrev pub RunsEndWithin : {P : Type 0} → ProbeSteps P → Type 0
 RunsEndWithin {P} probe =

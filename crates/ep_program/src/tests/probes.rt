@@ -15,7 +15,7 @@ struct Deaf {
 impl Probe for Deaf {
     ghost use Rattle.std.specs.Prelude.{◌-◌, ◌==◌, ◌||◌, ℕ, if◌then◌else◌};
     ghost use Rattle.ep_base.specs.Air.Heard.{Silence};
-    ghost use Rattle.ep_lanes.specs.Probing.{told};
+    ghost use Rattle.ep_claim.specs.Lanes.Probing.{told};
 
     ghost State = { ℕ };
 

@@ -14,3 +14,8 @@ told probe = record { hears = λ p lane ask given heard q. probe.hear p lane ask
 -- A probe that tells nothing has one state, and every answer (this project's own).
 abbrev pub untold : ProbeAnswers (Unit {0})
 untold = record { hears = λ _ _ _ _ _ _. ⊤ }
+
+-- A probe's answers are those of these steps (this project's own).
+abbrev pub Tells : {P : Type 0} → ProbeAnswers P → ProbeSteps P → Type 0
+Tells {P} answers steps =
+    (p : P) (lane : ℕ) (ask : Ask) (given heard : Heard) (q : P) → answers.hears p lane ask given heard q → steps.hear p lane ask given ≡ (q, heard)
