@@ -7,7 +7,7 @@ use Rattle.std.proofs.Math.Seq.{take-append-add}
 use Rattle.std.proofs.lemmas.List.{take-append-le}
 use Rattle.ep_base.specs.Streams.Io.{AppendsPrefix}
 use Rattle.ep_base.proofs.Known.{appends_more}
-use Rattle.lane_run.proofs.Results.{is_none}
+use Rattle.ep_lanes.proofs.Numbering.{is_none}
 use Rattle.lane_run.specs.Written.{with_text}
 
 -- Some text, and a first part of more.

@@ -13,7 +13,7 @@ use Rattle.ep_claim.specs.Lanes.Probing.{told}
 use Rattle.scenario.specs.Jobs.{job_of, talk_in}
 use Rattle.scenario.specs.Scenario.{Work}
 use Rattle.lane_run.specs.Works.{LaneWork, all_jobs}
-use Rattle.lane_run.proofs.Results.{is_none}
+use Rattle.ep_lanes.proofs.Numbering.{is_none}
 use Rattle.lane_run.specs.Ends.{GoesNoFurther, RunEnds, state_then}
 use Rattle.lane_run.specs.Played.{all_played, played_job}
 use Rattle.lane_run.specs.Reports.{RunsPart, RunsTo}

@@ -1,6 +1,6 @@
 -- Results and options that say the same or less.
-use Rattle.std.proofs.Common.{◌≡◌, ap, refl, true, unwrap_or}
-use Rattle.std.specs.Prelude.{false, is_some, Option, Some, None, Result, Ok, Err, OnErr}
+use Rattle.std.proofs.Common.{◌≡◌, ap, unwrap_or}
+use Rattle.std.specs.Prelude.{Option, Some, Result, Ok, Err, OnErr}
 
 -- What is there is the same.
 pub some_same : {A : Type 0} (x y : A) → Some x ≡ Some y → x ≡ y
@@ -10,8 +10,3 @@ some_same x y e = ap (λ o. unwrap_or o y) e
 pub on_err_weaker : {T E P Q : Type 0} (r : Result T E) → (P → Q) → OnErr r P → OnErr r Q
 on_err_weaker (Ok v) f h = tt
 on_err_weaker (Err e) f h = f h
-
--- What isn't there is none.
-pub is_none : {X : Type 0} (o : Option X) → is_some o ≡ false → o ≡ None
-is_none None e = refl
-is_none (Some x) e = let never : true ≡ false = e in cc

@@ -20,10 +20,10 @@ use Rattle.ep_base.proofs.Sizes.{frame_sized}
 use Rattle.law_round.proofs.Sizing.{round_sized}
 use Rattle.law_round.proofs.Linking.{at_end, one_link, keeps_cards_law}
 
-at_rest : (c : Card) → c ≡ fresh_card → AtRest dialogue.opened_reader c
+pub at_rest : (c : Card) → c ≡ fresh_card → AtRest dialogue.opened_reader c
 at_rest c e = subst (λ x. AtRest dialogue.opened_reader x) (sym e) (record { differ = refl; closed = refl; fresh = refl; none_taken = refl; none_left = refl; none_logged = refl; unhalted = refl })
 
-linked_there : (kind : CardKind) (before : List Placed) (one : Placed) (after : List Placed) → is_link kind false one ≡ true → all_out before ≡ true → all_out after ≡ true
+pub linked_there : (kind : CardKind) (before : List Placed) (one : Placed) (after : List Placed) → is_link kind false one ≡ true → all_out before ≡ true → all_out after ≡ true
     → linked_at kind false (length before) (before ++ one ∷ after) ≡ true
 linked_there kind [] one after is b a = rw (is, a) refl
 linked_there kind (p ∷ before) one after is b a =
@@ -31,7 +31,7 @@ linked_there kind (p ∷ before) one after is b a =
     let rest = linked_there kind before one after is parts.1 a in
     rw (parts.0, rest) refl
 
-party_there : (before : List Placed) (one : Placed) (after : List Placed) → party_at (length before) (before ++ one ∷ after) ≡ one.party
+pub party_there : (before : List Placed) (one : Placed) (after : List Placed) → party_at (length before) (before ++ one ∷ after) ≡ one.party
 party_there [] one after = refl
 party_there (p ∷ before) one after = party_there before one after
 

@@ -3,10 +3,9 @@ use Rattle.std.proofs.Common.{◌≡◌, ℕ, zero, suc, ◌+◌, ◌≤◌, Boo
 use Rattle.std.proofs.lemmas.Bool.{and_parts}
 use Rattle.ep_base.specs.declared.air.CardKind.{CardKind}
 use Rattle.ep_base.specs.Link.Block.{Block, Deselect}
-use Rattle.ep_base.specs.Link.CardEnd.{fresh_card}
 use Rattle.ep_base.specs.Cards.CardAnswer.{IsImage}
 use Rattle.ep_base.specs.Link.CardEnd.{Card, is_halted}
-use Rattle.ep_base.specs.Link.Carry.{SendsBlock, Follows, OfLink, AtRest}
+use Rattle.ep_base.specs.Link.Carry.{SendsBlock, Follows, OfLink}
 use Rattle.ep_base.specs.Link.Dialogue as dialogue
 use Rattle.ep_base.specs.Cards.Field.{Placed, Field, field, field_send}
 use Rattle.ep_base.specs.Air.Frame.{sealed}
@@ -27,7 +26,7 @@ use Rattle.link.specs.declared.transport.Presented.{Presented}
 use Rattle.link.specs.declared.transport.PresentEnd.{PresentEnd}
 use Rattle.link.specs.declared.transport.PresentEnd.TheVariants as present
 use Rattle.law_round.specs.Acting.{is_link, linked_at, are_fates, is_open, party_at, shown}
-use Rattle.law_round.specs.Inside.{is_out, all_out}
+use Rattle.law_round.specs.Inside.{is_out}
 use Rattle.ep_base.specs.Cards.Lawful.{ArePlaced, Lawful}
 use Rattle.ep_base.specs.declared.limits.TheConstants.{ROUNDS}
 use Rattle.law_round.specs.Linked.{HasLink}
@@ -45,24 +44,10 @@ use Rattle.block_reader.specs.declared.ends.LinkEnd.TheVariants.{Spent, Breach}
 use Rattle.block_reader.specs.declared.ends.LinkEnd.TheVariants as ending
 use Rattle.link.specs.Heard.{AsHeard}
 use Rattle.link.specs.Radio.{OverWire, link_of, open_link}
+use Rattle.law_round.proofs.Readying.{at_rest, linked_there, party_there}
 use Rattle.link_tests.specs.OneCommand.{IsLinked, IsUsable, LinksTo, OneCommand, OthersStay, closed_by}
 
 -- ---- presentations
-
-at_rest : (c : Card) → c ≡ fresh_card → AtRest dialogue.opened_reader c
-at_rest c e = subst (λ x. AtRest dialogue.opened_reader x) (sym e) (record { differ = refl; closed = refl; fresh = refl; none_taken = refl; none_left = refl; none_logged = refl; unhalted = refl })
-
-linked_there : (kind : CardKind) (before : List Placed) (one : Placed) (after : List Placed) → is_link kind false one ≡ true → all_out before ≡ true → all_out after ≡ true
-    → linked_at kind false (length before) (before ++ one ∷ after) ≡ true
-linked_there kind [] one after is b a = rw (is, a) refl
-linked_there kind (p ∷ before) one after is b a =
-    let parts = and_parts (is_out p.outside) (all_out before) b in
-    let rest = linked_there kind before one after is parts.1 a in
-    rw (parts.0, rest) refl
-
-party_there : (before : List Placed) (one : Placed) (after : List Placed) → party_at (length before) (before ++ one ∷ after) ≡ one.party
-party_there [] one after = refl
-party_there (p ∷ before) one after = party_there before one after
 
 fresh_link : (fsdi : ℕ) (card : Activated) (one : Placed) → HasLink fsdi card one → Link card.kind false one
 fresh_link fsdi card one h = record {
