@@ -1,6 +1,6 @@
 //! Lengths from outside, at both ends of each case.
 
-use crate::{ApduFault, Command, Response};
+use apdu::{ApduFault, Command, Response};
 use ep_base::{COMMAND, RESPONSE};
 
 fn fault_of_command(bytes: &[u8]) -> Option<ApduFault> {

@@ -1,4 +1,4 @@
-use crate::RawBlock;
+use raw_block::RawBlock;
 
 #[test]
 fn opens_empty(rt: HostRuntime) {

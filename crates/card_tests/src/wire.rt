@@ -1,9 +1,7 @@
 //! One card under fates, exchange by exchange.
 ghost use Rattle.rf_field.specs.Meaning.{IsRun};
 
-mod field;
-
-use crate::{Burst, CardImage, CardKind, Fate, FateRun, Medium, Way, Wire};
+use rf_field::{Burst, CardImage, CardKind, Fate, FateRun, Medium, Way, Wire};
 use apdu::Command;
 use ep_base::{FrameBuf, Wave};
 use rf_frame::Heard;

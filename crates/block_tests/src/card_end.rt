@@ -1,6 +1,6 @@
 //! The card's end, block by block.
 
-use crate::{CardEnd, CardKind, CardNext, Response};
+use block_card::{CardEnd, CardKind, CardNext, Response};
 use ep_base::{INF, MESSAGE};
 use rf_frame::{Wave, open_frame};
 use std::process::Abort;

@@ -2,7 +2,7 @@ ghost use Rattle.std.specs.Prelude.{◌≡◌};
 ghost use Rattle.std.specs.Option.{option_map};
 ghost use Rattle.ep_base.specs.Objects.Arena.{value_of};
 
-use crate::{Arena, ArenaCall, Full, ObjId, ReplaceEnd};
+use tlv_arena::{Arena, ArenaCall, Full, ObjId, ReplaceEnd};
 
 fn holds(arena: &Arena, id: ObjId, value: &[u8]) -> bool {
     match arena.get(id) {

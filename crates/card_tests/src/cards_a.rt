@@ -2,8 +2,10 @@
 ghost use Rattle.std.specs.Prelude.{IsSome, IsOk};
 ghost use Rattle.std.specs.Option.{IsNone};
 
-use super::*;
 use std::test::Fail;
+use type_a::{
+    ACard, APlan, AReader, Activated, Ats, AtsFault, Buf, CardHear, CardKind, FrameBuf, Heard, RoundEnd, Sent, Wave, parse_ats,
+};
 
 /// A card with this UID, and with two historical bytes or none.
 fn card(uid: &[u8], fwi: u8, historical: &[u8]) -> Result<ACard, Fail> {

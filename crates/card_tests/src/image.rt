@@ -2,7 +2,7 @@
 ghost use Rattle.std.specs.Prelude.{◌≡◌, ◌≤◌, ◌∷◌, [], length, IfOk};
 ghost use Rattle.ep_base.specs.Cards.CardAnswer.{IsResponse, AreAnswers, IsRule, IsApp, unused};
 
-use crate::{App, CardImage, CardLog, Rule};
+use card_image::{App, CardImage, CardLog, Rule};
 use apdu::{Command, Response};
 use arrayvec::ArrayVec;
 use std::alloc::Global;

@@ -1,6 +1,6 @@
 //! Spellings from outside.
 
-use crate::{Block, BlockFault, decode, encode};
+use block_pcb::{Block, BlockFault, decode, encode};
 use ep_base::FrameBuf;
 
 #[test]

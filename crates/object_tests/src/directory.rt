@@ -1,4 +1,4 @@
-use crate::{
+use ppse::{
     ADF_NAME, APPLICATION_LABEL, APPLICATION_PRIORITY, EXTENDED_SELECTION, KERNEL_IDENTIFIER,
     entry_value, read_directory,
 };

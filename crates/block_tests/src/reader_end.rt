@@ -2,7 +2,7 @@
 ghost use Rattle.std.specs.Prelude.{◌≡◌, ◌≤◌, ◌<◌, true, is_ok, length};
 ghost use Rattle.block_reader.specs.Stands.{held, is_open, is_resting};
 
-use crate::{Breach, LinkEnd, Next, Phase, ReaderEnd};
+use block_reader::{Breach, LinkEnd, Next, Phase, ReaderEnd};
 use apdu::{Command, Response};
 use arrayvec::ArrayVec;
 use ep_base::{CardKind, FRAME, MESSAGE, Wave};

@@ -1,5 +1,7 @@
-use super::*;
 use ep_base::MESSAGE;
+use rf_frame::{
+    Activated, Ask, Buf, Burst, CardHear, CardKind, FrameBuf, Heard, Medium, RfFailed, RoundEnd, Wave, answer_in, ask_message, burst_seen, check, copy_frame, exchange, flip, good, open_frame, seal, sent_message,
+};
 use std::test::Fail;
 
 fn framed(bytes: &[u8]) -> Result<FrameBuf, Fail> {
@@ -110,7 +112,7 @@ struct ListMedium {
 
 impl Medium for ListMedium {
     ghost use Rattle.ep_base.specs.Air.Medium.{told};
-    ghost use Rattle.rf_frame.specs.Listed.{Listed, listed};
+    ghost use Rattle.frame_tests.specs.Listed.{Listed, listed};
 
     ghost State = { Listed };
 

@@ -1,9 +1,11 @@
 //! Cards alone in a medium, a medium that fails, and the frames of a round.
 ghost use Rattle.std.specs.Prelude.{IsSome, IsOk};
 
-use super::*;
 use ep_base::ROUNDS;
-use rf_frame::{Buf, CardHear, CardKind, FrameBuf, Sent};
+use poll_activate::{Poll, PollEnd, Rounds, poll, round};
+use rf_frame::{
+    Activated, Buf, CardHear, CardKind, FrameBuf, Heard, Medium, RfFailed, RoundEnd, Sent, Wave,
+};
 use std::test::Fail;
 use type_a::{ACard, APlan};
 use type_b::{BCard, BPlan};

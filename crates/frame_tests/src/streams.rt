@@ -2,7 +2,7 @@
 ghost use Rattle.std.specs.Prelude.{None};
 ghost use Rattle.std.specs.declared.option.Option.{Option};
 
-use crate::{
+use ep_base::{
     MemorySink, MemorySource, ReadEnd, Sink, SinkFailed, Source, StdSink, StdSource, push_all,
     read_all,
 };

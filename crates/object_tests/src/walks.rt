@@ -1,4 +1,4 @@
-use crate::{Node, TlvFault, Walk, read, write_length, write_tag};
+use tlv_core::{Node, TlvFault, Walk, read, write_length, write_tag};
 use arrayvec::ArrayVec;
 use ep_base::FrameBuf;
 
