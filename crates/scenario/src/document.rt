@@ -105,7 +105,7 @@ fn plan_at(alloc: Global, root: &Section) -> Result<Document, TableEnd>
     ensures { GivesIfRoom (λ d. d) result (plan_at (place root.now)) }
 {
     let _version = root.required_integer("version", 1, 1)?;
-    let fsdi = root.integer_or("fsdi", FSDI.into(), 0, FSDI.into())?;
+    let fsdi = root.integer_or("fsdi", FSDI as u64, 0, FSDI as u64)?;
     let config = Config::of_table(alloc, root.table())?;
     let lanes = lanes_of(alloc, root)?;
     let turns = turns_of(alloc, root, lanes.len())?;
