@@ -7,6 +7,7 @@ mod driving;
 mod hearing;
 mod holding;
 mod ran;
+mod rounds;
 mod session;
 mod starting;
 mod steps;

@@ -36,6 +36,7 @@ use Rattle.kernel_port.specs.declared.event.End.TheVariants as ending
 use Rattle.kernel_port.specs.declared.event.Event.{Event}
 use Rattle.session_phases.specs.Causes.{EndDecided, HasOutcome}
 use Rattle.session_phases.specs.Told.{Comes, after_events, told_by}
+use Rattle.session_phases.specs.Rolling.{OverBy}
 use Rattle.session_phases.specs.Rounds.{polls, presents}
 use Rattle.select_rules.specs.declared.pair.Pair.{Pair}
 use Rattle.session_phases.specs.declared.steps.Purpose as code_purpose
@@ -113,6 +114,11 @@ over_so talk results before old new link e end is decided told comes =
       last = all;
       decided = decided;
     }
+
+-- The same of a talk that a Start B ends.
+pub over_by : (talk : Talk) (results : List Result) (said : List EventData) (link : Option OpenLink) (end : ends_declared.End) → OverBy end talk results said
+    → EndsSo end talk (standing talk results link) said
+over_by talk results said link end h = over_so talk results [] h.before said link h.ending end h.word h.decided h.last h.comes
 
 none_more : (collided : Bool) (next : Activated → Talk) → talks.rounds OneCardOnly 0 collided next ≡ Over NoCard
 unfolding talks.rounds

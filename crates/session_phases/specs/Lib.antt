@@ -2,6 +2,7 @@ pub mod Causes
 pub mod Offers
 pub mod Opening
 pub mod Plain
+pub mod Rolling
 pub mod Room
 pub mod Rounds
 pub mod Shown

@@ -25,7 +25,7 @@ use poll_activate::Rounds;
 use rf_frame::Ask;
 
 /// The rounds of a Start B that may follow its first one.
-const MORE_ROUNDS: u8 = ROUNDS as u8 - 1;
+pub const MORE_ROUNDS: u8 = ROUNDS as u8 - 1;
 
 /// A Start B begins, in which no round has ended.
 pub(crate) fn start_b(fsdi: u8, rounds: &mut Rounds, round: &mut Round, ask: &mut Ask) -> Onward

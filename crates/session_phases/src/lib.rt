@@ -12,12 +12,15 @@ mod linking;
 mod offers;
 mod opening;
 mod polling;
+mod rolling;
 mod running;
 mod selecting;
 mod steps;
 
 pub use answering::respond;
+pub use closing::MORE_ROUNDS;
 pub use hearing::hear;
 pub use opening::{begin, open};
 pub use polling::meet;
-pub use steps::{LastLink, Onward, Phase, Presentation, Purpose, Round, Selection, Wish};
+pub use rolling::roll;
+pub use steps::{LastLink, Onward, Phase, Presentation, Purpose, Rolling, Round, Selection, Wish};

@@ -9,7 +9,7 @@ ghost use Rattle.ep_base.specs.declared.outcome.Message.TheVariants.{OneCardOnly
 ghost use Rattle.ep_base.specs.Poll.Radio.{OpenLink, link_to};
 ghost use Rattle.ep_base.specs.Poll.Round.{Stage, round_hears};
 ghost use Rattle.ep_rules.specs.EntryPoint.Event.{Event as EventData};
-ghost use Rattle.ep_rules.specs.EntryPoint.Talk.{Talk, Result, Command as talk_command, by_end, rounds, say_collision};
+ghost use Rattle.ep_rules.specs.EntryPoint.Talk.{Talk, Result, Command as talk_command, by_end, rounds};
 ghost use Rattle.ep_claim.specs.Lanes.Standing.{after_stage, link_by, standing};
 ghost use Rattle.poll_activate.specs.Meaning.{ends_of};
 ghost use Rattle.rf_frame.specs.Meaning.{heard_of, round_end_of};
@@ -22,12 +22,14 @@ ghost use Rattle.session_phases.specs.Shown.{ends_after, kept_found, kept_of, ke
 ghost use Rattle.session_phases.specs.Stands.{RoundTurned, goes_on, link_held};
 ghost use Rattle.session_phases.specs.Told.{Comes, told_by};
 
-use crate::closing::finish;
 use crate::events::note;
 use crate::linking::begin_wish;
-use crate::steps::{LastLink, Onward, Phase, Presentation, Purpose, Round, Selection, Wish};
+use crate::rolling::roll;
+use crate::steps::{
+    LastLink, Onward, Phase, Presentation, Purpose, Rolling, Round, Selection, Wish,
+};
 use apdu::{Command, PPSE_NAME};
-use kernel_port::{End, Event, EventList, Message};
+use kernel_port::{Event, EventList};
 use poll_activate::Poll;
 use rf_frame::{Activated, Ask, Heard, RoundEnd};
 
@@ -51,29 +53,6 @@ pub(crate) fn open_round(
     round.collided = collided;
     round.poll.ask_into(ask);
     Onward::Goes(Phase::Polling)
-}
-
-/// The next round of a Start B, or its end after the last one.
-fn next_round(
-    fsdi: u8,
-    left: u8,
-    collided: bool,
-    round: &mut Round,
-    events: &mut EventList,
-    ask: &mut Ask,
-) -> Onward
-    requires code { fsdi < 16 }
-    requires events { array_vec_len events.old < 24 }
-    ensures turned { (talk : Talk) (results : List Result) (before : List EventData) (next : List ℕ → Talk) (link : Option OpenLink) (end : Option Held) (selection : Selection)
-        → Comes talk results (before ++ told_by events.old.items) (rounds OneCardOnly left collided (presents next))
-        → RoundTurned fsdi end (onward_of result ask.new round.new selection) talk (standing talk results link) (before ++ told_by events.new.items) next }
-    ensures goes_on { (is_open is_fresh : Bool) (end : Option Held) (selection : Selection) → goes_on is_open is_fresh end (onward_of result ask.new round.new selection) ≡ true }
-    ensures left { (selection : Selection) → LeftThen (onward_of result ask.new round.new selection) left }
-{
-    if left == 0 {
-        return finish(End::NoCard, events);
-    }
-    open_round(fsdi, left - 1, collided, round, ask)
 }
 
 /// A card that was found is noted, and the command that asks for its directory is the selection's.
@@ -123,29 +102,6 @@ fn find(
     Onward::Goes(Phase::Waiting(wish))
 }
 
-/// After a round that ended as a collision, of which the first is said in a Start B.
-fn collide(
-    fsdi: u8,
-    left: u8,
-    collided: bool,
-    round: &mut Round,
-    events: &mut EventList,
-    ask: &mut Ask,
-) -> Onward
-    requires code { fsdi < 16 }
-    requires events { array_vec_len events.old + 2 ≤ 24 }
-    ensures turned { (talk : Talk) (results : List Result) (before : List EventData) (next : List ℕ → Talk) (link : Option OpenLink) (end : Option Held) (selection : Selection)
-        → Comes talk results (before ++ told_by events.old.items) (say_collision collided OneCardOnly (rounds OneCardOnly left true (presents next)))
-        → RoundTurned fsdi end (onward_of result ask.new round.new selection) talk (standing talk results link) (before ++ told_by events.new.items) next }
-    ensures goes_on { (is_open is_fresh : Bool) (end : Option Held) (selection : Selection) → goes_on is_open is_fresh end (onward_of result ask.new round.new selection) ≡ true }
-    ensures left { (selection : Selection) → LeftThen (onward_of result ask.new round.new selection) left }
-{
-    if !collided {
-        note(events, Event::Message(Message::OneCardOnly));
-    }
-    next_round(fsdi, left, true, round, events, ask)
-}
-
 /// After the end of a round.
 fn after_round(
     end: &RoundEnd,
@@ -160,7 +116,7 @@ fn after_round(
 ) -> Onward
     requires code { fsdi < 16 }
     requires limits { EndsInLimits (round_end_of end.now) }
-    requires events { array_vec_len events.old + 2 ≤ 24 }
+    requires events { array_vec_len events.old + 3 ≤ 24 }
     ensures turned { (talk : Talk) (results : List Result) (before : List EventData) (next : List ℕ → Talk)
         → Comes talk results (before ++ told_by events.old.items) (by_end OneCardOnly collided (λ c. rounds OneCardOnly left c (presents next)) (presents next) (round_end_of end.now))
         → RoundTurned fsdi (link_held link.new) (onward_of result ask.new round.new selection.new) talk (standing talk results (link_by fsdi (round_end_of end.now))) (before ++ told_by events.new.items) next }
@@ -169,12 +125,10 @@ fn after_round(
     ensures none { NoneThen (onward_of result ask.new round.new selection.new) (round_end_of end.now) }
     ensures kept { kept_of (link_held link.new) ≡ kept_found (round_end_of end.now) (kept_of (link_held link.old)) }
 {
-    match end {
-        RoundEnd::Empty => next_round(fsdi, left, collided, round, events, ask),
-        RoundEnd::Collision => collide(fsdi, left, collided, round, events, ask),
-        RoundEnd::Unsupported => next_round(fsdi, left, collided, round, events, ask),
-        RoundEnd::Broken => next_round(fsdi, left, collided, round, events, ask),
-        RoundEnd::Card(card) => find(card, fsdi, link, selection, events, ask),
+    match roll(end, left, collided, events) {
+        Rolling::Round { left, collided } => open_round(fsdi, left, collided, round, ask),
+        Rolling::Card(card) => find(card, fsdi, link, selection, events, ask),
+        Rolling::Ended(end) => Onward::Ended(end),
     }
 }
 
@@ -188,7 +142,7 @@ pub(crate) fn hear_round(
 ) -> Onward
     requires code { fsdi < 16 }
     requires going { IsSome presentation.old.round.poll.stage }
-    requires events { array_vec_len events.old + 2 ≤ 24 }
+    requires events { array_vec_len events.old + 3 ≤ 24 }
     ensures turned { (talk : Talk) (results : List Result) (before : List EventData) (next : List ℕ → Talk) (stage : Stage)
         → presentation.old.round.poll.stage ≡ Some stage → presentation.old.round.poll.fsdi ≡ fsdi
         → Comes talk results (before ++ told_by events.old.items) (polls presentation.old.round.left presentation.old.round.collided (presents next))

@@ -4,6 +4,7 @@ use apdu::{Command, Response};
 use block_reader::ReaderEnd;
 use kernel_port::{Activation, End};
 use poll_activate::{Poll, Rounds};
+use rf_frame::Activated;
 use select_rules::Candidates;
 use tlv_arena::Arena;
 
@@ -48,6 +49,22 @@ pub struct Round {
     pub left: u8,
     /// Whether a collision was said in this Start B.
     pub collided: bool,
+}
+
+/// How a Start B goes on after a round.
+#[derive(Clone, Copy)]
+pub enum Rolling<'c> {
+    /// With another round.
+    Round {
+        /// How many rounds may still follow it.
+        left: u8,
+        /// Whether a collision was said in this Start B.
+        collided: bool,
+    },
+    /// With this card, which was found.
+    Card(&'c Activated),
+    /// Not at all: the transaction has ended so.
+    Ended(End),
 }
 
 /// What is kept of a presented card while a command waits for its answer.
