@@ -1,7 +1,10 @@
 pub mod Agreeing
+pub mod Beginnings
 pub mod HexText
 pub mod Leading
+pub mod Members
 pub mod Ordering
 pub mod Places
+pub mod Reading
 pub mod Sharing
 pub mod Spelling

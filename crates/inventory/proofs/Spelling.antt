@@ -5,9 +5,9 @@ use Rattle.std.proofs.lemmas.Nat.{pow_pos, mod-pow-add, shr-shr}
 use Rattle.std.proofs.Math.Nat.{mul_assoc, mod-lt}
 use Rattle.std.proofs.Math.Pow.{pow_mono}
 use Rattle.std.proofs.Math.Seq.{drop-append_seam}
-use Rattle.std.proofs.lemmas.List.{length-append}
-use Rattle.inventory.specs.Bits.{bits, bits_of}
-use Rattle.inventory.specs.Prefixes.{number_with, with_bit}
+use Rattle.std.proofs.lemmas.List.{length-append, length-take-le}
+use Rattle.inventory.specs.Bits.{bits, bits_of, known_bits}
+use Rattle.inventory.specs.Prefixes.{number_of, number_with, with_bit}
 use Rattle.inventory.specs.Walks.{IsPrefix}
 
 pub length-bits : (k n : ℕ) → length (bits k n) ≡ k
@@ -132,12 +132,88 @@ bits_of_number n lt =
     bits_of_four (n % 256) (n / 256 % 256) (n / 65536 % 256) (n / 16777216 % 256) (omega arith) (omega arith) (omega arith)
     ∙ ap (bits 32) (omega (arith, lt))
 
+take_most : (n : ℕ) (xs : List Bool) → length (take n xs) ≤ n
+take_most zero xs = omega arith
+take_most (suc n) [] = omega arith
+take_most (suc n) (x ∷ xs) = omega (arith, take_most n xs)
+
+number_less : (xs : List Bool) → number_of xs < 2 ^ length xs
+unfolding number_of
+number_less [] = omega arith
+number_less (true ∷ xs) = let twice : 2 ^ suc (length xs) ≡ 2 * 2 ^ length xs = omega arith in omega (arith, twice, number_less xs)
+number_less (false ∷ xs) = let twice : 2 ^ suc (length xs) ≡ 2 * 2 ^ length xs = omega arith in omega (arith, twice, number_less xs)
+
+-- A number spells the bits that it was made of.
+pub bits_number : (xs : List Bool) → bits (length xs) (number_of xs) ≡ xs
+unfolding bits number_of
+bits_number [] = refl
+bits_number (true ∷ xs) =
+    let low : (1 + 2 * number_of xs) % 2 ≡ 1 = omega arith in
+    let high : (1 + 2 * number_of xs) / 2 ≡ number_of xs = omega arith in
+    rw (low, high) (ap (λ ys. true ∷ ys) (bits_number xs))
+bits_number (false ∷ xs) =
+    let low : (0 + 2 * number_of xs) % 2 ≡ 0 = omega arith in
+    let high : (0 + 2 * number_of xs) / 2 ≡ number_of xs = omega arith in
+    rw (low, high) (ap (λ ys. false ∷ ys) (bits_number xs))
+
+digit_of : (m : ℕ) → m < 2 → (if m == 1 then 1 else 0) ≡ m
+digit_of zero lt = refl
+digit_of (suc zero) lt = refl
+digit_of (suc (suc m)) lt = absurd (omega (arith, lt))
+
+-- The lowest bits of a number make its remainder.
+pub number_bits : (k n : ℕ) → number_of (bits k n) ≡ n % 2 ^ k
+unfolding bits number_of
+number_bits zero n = omega arith
+number_bits (suc k) n = omega (arith, half_mod k n, number_bits k (n / 2), digit_of (n % 2) (omega arith))
+
+-- One bit more.
+pub number_snoc : (xs : List Bool) (b : Bool) → number_of (xs ++ b ∷ []) ≡ number_of xs + (if b then 2 ^ length xs else 0)
+unfolding number_of
+number_snoc [] true = refl
+number_snoc [] false = refl
+number_snoc (x ∷ xs) true = let twice : 2 ^ suc (length xs) ≡ 2 * 2 ^ length xs = omega arith in omega (arith, twice, number_snoc xs true)
+number_snoc (x ∷ xs) false = omega (arith, number_snoc xs false)
+
 number_small : (bytes : List ℕ) (place : ℕ) (b : Bool) → number_with bytes place b < 2 ^ (place + 1)
 unfolding number_with
-number_small bytes place true =
-    let twice : 2 ^ (place + 1) ≡ 2 * 2 ^ place = rw add-one (omega arith) in omega (arith, twice, mod-lt (from_le_bytes w32 bytes) (pow_pos place))
-number_small bytes place false =
-    let twice : 2 ^ (place + 1) ≡ 2 * 2 ^ place = rw add-one (omega arith) in omega (arith, twice, mod-lt (from_le_bytes w32 bytes) (pow_pos place))
+number_small bytes place b =
+    let l : length (take place (bits_of bytes) ++ b ∷ []) ≤ place + 1 = omega (arith, take_most place (bits_of bytes), length-append (take place (bits_of bytes)) (b ∷ [])) in
+    omega (arith, number_less (take place (bits_of bytes) ++ b ∷ []), pow_mono {i = length (take place (bits_of bytes) ++ b ∷ [])} {j = place + 1} l)
+
+-- The bits of four bytes are those of the number that they make.
+pub bits_of_bytes : (xs : List ℕ) (n : ℕ) → length xs ≡ 4 → ((i : ℕ) → get_or xs i 0 < 256) → n ≡ from_le_bytes w32 xs → bits_of xs ≡ bits 32 n
+bits_of_bytes [] n l fits e = cc
+bits_of_bytes (a ∷ []) n l fits e = cc
+bits_of_bytes (a ∷ b ∷ []) n l fits e = cc
+bits_of_bytes (a ∷ b ∷ c ∷ []) n l fits e = cc
+bits_of_bytes (a ∷ b ∷ c ∷ d ∷ []) n l fits e =
+    let m : n ≡ a + 256 * (b + 256 * (c + 256 * d)) = omega (arith, e) in
+    rw m (bits_of_four a b c d (fits 0) (fits 1) (fits 2))
+bits_of_bytes (a ∷ b ∷ c ∷ d ∷ e ∷ xs) n l fits same = absurd (omega (arith, l))
+
+-- The number of known bits and one more, as the code makes it.
+pub number_with_is : (xs : List ℕ) (n place : ℕ) (b : Bool) → length xs ≡ 4 → ((i : ℕ) → get_or xs i 0 < 256) → n ≡ from_le_bytes w32 xs → place < 32
+    → number_with xs place b ≡ n % 2 ^ place + (if b then 2 ^ place else 0)
+unfolding number_with
+number_with_is xs n place b l fits e lt =
+    let first : take place (bits_of xs) ≡ bits place n = ap (take place) (bits_of_bytes xs n l fits e) ∙ take-bits place 32 n (omega (arith, lt)) in
+    ap (λ ys. number_of (ys ++ b ∷ [])) first ∙ number_snoc (bits place n) b
+    ∙ ap (λ m. m + (if b then 2 ^ length (bits place n) else 0)) (number_bits place n)
+    ∙ ap (λ m. n % 2 ^ place + (if b then 2 ^ m else 0)) (length-bits place n)
+
+-- What is known after one bit more.
+pub known_with_bit : (bytes : List ℕ) (place : ℕ) (b : Bool) → place < 32 → place ≤ length (bits_of bytes)
+    → known_bits (with_bit bytes place b) ≡ take place (bits_of bytes) ++ b ∷ []
+unfolding number_with
+known_with_bit bytes place b lt le =
+    let xs = take place (bits_of bytes) ++ b ∷ [] in
+    let l : length xs ≡ place + 1 = length-append (take place (bits_of bytes)) (b ∷ []) ∙ ap (λ m. m + 1) (length-take-le place (bits_of bytes) le) in
+    let small : number_with bytes place b < 2 ^ (place + 1) = number_small bytes place b in
+    let most : 2 ^ (place + 1) ≤ 2 ^ 32 = pow_mono {i = place + 1} {j = 32} (omega (arith, lt)) in
+    ap (take (place + 1)) (bits_of_number (number_with bytes place b) (omega (arith, small, most)))
+    ∙ take-bits (place + 1) 32 (number_with bytes place b) (omega (arith, lt))
+    ∙ subst (λ (m : ℕ). bits m (number_of xs) ≡ xs) l (bits_number xs)
 
 -- Bits past those that are known are 0.
 pub with_bit_clear : (bytes : List ℕ) (place : ℕ) (b : Bool) → place < 32 → IsPrefix (with_bit bytes place b)

@@ -3,6 +3,7 @@ use Rattle.inventory.specs.Turns.{spent, left}
 use Rattle.inventory.specs.Walks.{Walk, Turned, IsWalk, IsClearEnd, turned, begun}
 use Rattle.inventory.proofs.Leading.{leads, Leads, LeadsBy, GoesOn, begun_stands}
 use Rattle.inventory.proofs.Places.{spent_most}
+use Rattle.inventory.proofs.Members.{only, agreed_parts}
 use Rattle.inventory.proofs.listing.inventory.Goals as goal
 
 pub turns-init : goal.turns-init
