@@ -1,10 +1,14 @@
 pub mod Agreeing
 pub mod Beginnings
+pub mod Finding
 pub mod HexText
 pub mod Leading
 pub mod Members
 pub mod Ordering
+pub mod Paths
 pub mod Places
 pub mod Reading
 pub mod Sharing
 pub mod Spelling
+pub mod Splitting
+pub mod Standing

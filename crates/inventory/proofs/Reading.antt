@@ -40,7 +40,7 @@ bits_of_append [] ys = refl
 bits_of_append (x ∷ xs) ys = ap (λ zs. bits 8 x ++ zs) (bits_of_append xs ys) ∙ sym (append_assoc (bits 8 x) (bits_of xs) (bits_of ys))
 
 -- A level's value is known whole, and tells of another level.
-pub record Tells (k : Prefix) : Type 0 where
+pub record Cascades (k : Prefix) : Type 0 where
   pub whole : k.bits ≡ 32
   pub value : IsValue k.bytes
   pub more : slice_index k.bytes 0 ≡ 0x88
@@ -49,8 +49,8 @@ pub record Tells (k : Prefix) : Type 0 where
 abbrev pub Lower : Path → ℕ → Type 0
 Lower p zero = ⊥
 Lower p (suc zero) = Unit {0}
-Lower p (suc (suc zero)) = Tells p.first
-Lower p (suc (suc (suc zero))) = Tells p.first × Tells p.second
+Lower p (suc (suc zero)) = Cascades p.first
+Lower p (suc (suc (suc zero))) = Cascades p.first × Cascades p.second
 Lower p (suc (suc (suc (suc n)))) = ⊥
 
 -- The bits of the levels before this one.
@@ -237,7 +237,7 @@ pub reads : (p : Path) (level : ℕ) → Lower p level → (t : Tag) → IsTag t
 reads p level lo t is h = read_uid p level lo t.uid is.uid is.bytes h
 
 -- Bits after those of the levels before begin what a card reads.
-hear_at : (b : Bool) (p : Path) (level : ℕ) → Lower p level → (t : Tag) → IsTag t → (known : List Bool) → length known ≤ 32 → begins (prior p level) (spelled t.uid) ≡ b
+pub hear_at : (b : Bool) (p : Path) (level : ℕ) → Lower p level → (t : Tag) → IsTag t → (known : List Bool) → length known ≤ 32 → begins (prior p level) (spelled t.uid) ≡ b
     → begins (prior p level ++ known) (spelled t.uid) ≡ (b && begins known (bits_of (level_bytes t.uid level)))
 hear_at false p level lo t is known le h = begins_less (prior p level) known (spelled t.uid) h
 hear_at true p level lo t is known le h =

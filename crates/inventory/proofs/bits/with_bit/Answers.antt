@@ -3,7 +3,8 @@ use Rattle.std.proofs.Math.Pow.{pow-lt}
 use Rattle.inventory.specs.Prefixes.{number_with}
 use Rattle.inventory.proofs.Spelling.{number_with_is}
 use Rattle.inventory.proofs.Members.{agreed_parts}
-use Rattle.inventory.proofs.Reading.{hear}
+use Rattle.inventory.proofs.Standing.{heard_stand}
+use Rattle.inventory.proofs.Splitting.{ask_finds}
 use Rattle.inventory.proofs.bits.with_bit.Goals as goal
 use Rattle.inventory.proofs.bits.with_bit.Goals.{then-bit, else-bit}
 
