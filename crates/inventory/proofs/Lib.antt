@@ -8,6 +8,7 @@ pub mod Ordering
 pub mod Paths
 pub mod Places
 pub mod Reading
+pub mod Selecting
 pub mod Sharing
 pub mod Spelling
 pub mod Splitting
