@@ -3,6 +3,7 @@ pub mod Beginnings
 pub mod Finding
 pub mod HexText
 pub mod Leading
+pub mod Making
 pub mod Members
 pub mod Ordering
 pub mod Paths

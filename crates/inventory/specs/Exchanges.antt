@@ -52,16 +52,22 @@ is_odd_heard known (Split bytes place) = nat_lt place known.bits || (nat_lt 31 p
 abbrev pub is_odd_sak : ℕ → List ℕ → ℕ → Bool
 is_odd_sak level value sak = if bit sak 4 == 1 then not (nat_lt level 3 && (slice_index value 0 == 0x88)) else nat_lt level 3 && (slice_index value 0 == 0x88)
 
--- The level, and the bits known, of an exchange after the first one whose answer is odd (this project's own).
-abbrev pub odd_at : Exchange → Option (ℕ × Prefix)
+-- What a refusal names: a level, and the bits known of its value (this project's own).
+pub record Refused : Type 0 where
+  pub level : ℕ
+  pub known : Prefix
+
+-- What is refused of an exchange after the first one whose answer is odd (ISO/IEC 14443-3; what the refusal names: this
+-- project's own).
+abbrev pub odd_at : Exchange → Option Refused
 odd_at (Woken None) = None
 odd_at (Woken (Some true)) = None
-odd_at (Woken (Some false)) = Some (1, record { bytes = 0 ∷ 0 ∷ 0 ∷ 0 ∷ []; bits = 0 })
+odd_at (Woken (Some false)) = Some (record { level = 1; known = record { bytes = 0 ∷ 0 ∷ 0 ∷ 0 ∷ []; bits = 0 } })
 odd_at (Asked level known None) = None
-odd_at (Asked level known (Some heard)) = if is_odd_heard known heard then Some (level, known) else None
+odd_at (Asked level known (Some heard)) = if is_odd_heard known heard then Some (record { level = level; known = known }) else None
 odd_at (Selected level value None) = None
-odd_at (Selected level value (Some None)) = Some (level, whole value)
-odd_at (Selected level value (Some (Some sak))) = if is_odd_sak level value sak then Some (level, whole value) else None
+odd_at (Selected level value (Some None)) = Some (record { level = level; known = whole value })
+odd_at (Selected level value (Some (Some sak))) = if is_odd_sak level value sak then Some (record { level = level; known = whole value }) else None
 
 -- The cards that exchanges complete: a wake begins anew, and a SAK without bit 04h completes the UID of the values that were
 -- selected since (ISO/IEC 14443-3).
@@ -82,11 +88,13 @@ abbrev pub AreFine : List Exchange → Type 0
 AreFine [] = Unit {0}
 AreFine (x ∷ xs) = (has_failed x ≡ false) × (odd_at x ≡ None) × AreFine xs
 
--- How an exchange ends an inventory that had found these cards (this project's own).
-abbrev pub EndsBy : List Exchange → Exchange → List Tag → InventoryEnd → Type 0
-EndsBy xs x found Device = has_failed x ≡ true
-EndsBy xs x found (Odd level known) = odd_at x ≡ Some (level, known)
-EndsBy xs x found Many = (odd_at x ≡ None) × (length (completed (xs ++ x ∷ [])) ≡ 17)
+-- How an exchange after others ends an inventory: it fails; its answer is odd, and it isn't the first wake; or a seventeenth
+-- card is complete (this project's own).
+abbrev pub EndsBy : List Exchange → Exchange → InventoryEnd → Type 0
+EndsBy xs x Device = has_failed x ≡ true
+EndsBy [] x (Odd level known) = ⊥
+EndsBy (y ∷ xs) x (Odd level known) = odd_at x ≡ Some (record { level = level; known = known })
+EndsBy xs x Many = (odd_at x ≡ None) × (length (completed (xs ++ x ∷ [])) ≡ 17)
 
 -- All exchanges were fine, or no card answered the first wake (this project's own).
 abbrev pub EndsWell : List Exchange → Type 0
@@ -98,4 +106,9 @@ abbrev pub ComesTo : {S : Type 0} → BitSteps S → S → Result ℕ InventoryE
 ComesTo steps s (Ok n) found t =
     (xs : List Exchange) × TakesAll steps s xs t × (n ≡ length xs) × (found ≡ completed xs) × (length found ≤ 16) × EndsWell xs
 ComesTo steps s (Err e) found t =
-    (xs : List Exchange) × (x : Exchange) × TakesAll steps s (xs ++ x ∷ []) t × AreFine xs × (found ≡ completed xs) × (length found ≤ 16) × EndsBy xs x found e
+    (xs : List Exchange) × (x : Exchange) × TakesAll steps s (xs ++ x ∷ []) t × AreFine xs × (found ≡ completed xs) × (length found ≤ 16) × EndsBy xs x e
+
+-- What an inventory comes to: the field is reset first, and nothing is asked where that fails (this project's own).
+abbrev pub Comes : {S : Type 0} → BitSteps S → S → Result ℕ InventoryEnd → List Tag → S → Type 0
+Comes {S} steps s r found t =
+    ((r ≡ Err Device) × (found ≡ []) × steps.resets s false t) ⊎ ((m : S) × steps.resets s true m × ComesTo steps m r found t)
