@@ -1,5 +1,6 @@
 pub mod Agreeing
 pub mod Beginnings
+pub mod Ending
 pub mod Finding
 pub mod HexText
 pub mod Leading

@@ -2,6 +2,7 @@
 ghost use Rattle.std.specs.Prelude.{◌≡◌, ◌≤◌, ◌<◌, ◌+◌, ◌-◌, ◌*◌, ◌^◌, List, length, IfOk, IfErr, OnErr, IsErrOf};
 ghost use Rattle.arrayvec.specs.ArrayVec.{array_vec_len};
 ghost use Rattle.ep_base.specs.Streams.Causes.{HasCause};
+ghost use Rattle.inventory.specs.Exchanges.{Comes};
 ghost use Rattle.inventory.specs.Finds.{Finds};
 ghost use Rattle.inventory.specs.Steps.{one_more};
 ghost use Rattle.inventory.specs.Tags.{AreTags};
@@ -81,6 +82,7 @@ pub fn inventory<F: BitField>(
     found: &mut ArrayVec<Tag, 16>,
 ) -> Result<u32, InventoryEnd>
     requires { array_vec_len found.old ≡ 0 }
+    ensures comes { Comes F.steps (F.state field.old) result found.new.items (F.state field.new) }
     ensures finds { (shown : F.State → List Stood) → Tells F.steps shown → AreTags (tags_of (shown (F.state field.old))) →
         Finds (tags_of (shown (F.state field.old))) found.new.items result }
     ensures number { IfOk result (λ n. F.exchanges field.new < 2 ^ 64 - 1 → F.exchanges field.new ≡ F.exchanges field.old + n) }
@@ -88,9 +90,9 @@ pub fn inventory<F: BitField>(
     ensures clear { IfErr result IsClearEnd }
     ensures cause { HasCause (F.faults field.old) (F.faults field.new) (IsErrOf result InventoryEnd.Device) }
 {
-    if field.reset().is_err() {
+    let Ok(()) = field.reset() else {
         return Err(InventoryEnd::Device);
-    }
+    };
     match field.wake() {
         Err(_) => return Err(InventoryEnd::Device),
         Ok(false) => return Ok(1),
@@ -100,9 +102,13 @@ pub fn inventory<F: BitField>(
     let mut exchanges: u32 = 1;
     'turns: loop {
         exchanges += 1;
-        let over = turn(field, &mut walk, found)?;
-        if over {
-            return Ok(exchanges);
+        match turn(field, &mut walk, found) {
+            Err(end) => return Err(end),
+            Ok(over) => {
+                if over {
+                    return Ok(exchanges);
+                }
+            }
         }
     }
 }

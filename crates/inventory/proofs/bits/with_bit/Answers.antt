@@ -2,9 +2,6 @@ use Rattle.std.proofs.Common.{◌≡◌, ◌+◌, ◌*◌, ◌%◌, ◌^◌, ◌
 use Rattle.std.proofs.Math.Pow.{pow-lt}
 use Rattle.inventory.specs.Prefixes.{number_with}
 use Rattle.inventory.proofs.Spelling.{number_with_is}
-use Rattle.inventory.proofs.Members.{agreed_parts}
-use Rattle.inventory.proofs.Standing.{heard_stand}
-use Rattle.inventory.proofs.Making.{Onward}
 use Rattle.inventory.proofs.bits.with_bit.Goals as goal
 use Rattle.inventory.proofs.bits.with_bit.Goals.{then-bit, else-bit}
 
