@@ -15,3 +15,4 @@ pub mod Sharing
 pub mod Spelling
 pub mod Splitting
 pub mod Standing
+pub mod TellsCards

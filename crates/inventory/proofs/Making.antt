@@ -213,21 +213,32 @@ full_made b {S} steps start w found n s sak t c clear last e = by b e
   where
     x : Exchange
     x = Selected w.level (known_of w).bytes (Some (Some sak))
+
     u : Tag
     u = record { uid = uid_at w.path w.level; sak = sak }
+
     fine : odd_at x ≡ None
     fine = rw (clear, last) refl
+
     uid : uid_after [] c.so.exchanges ++ (known_of w).bytes ≡ uid_at w.path w.level
     uid = ap (λ ys. ys ++ (known_of w).bytes) (c.so.uid c.awake) ∙ sym (uid_is_at w.path w.level c.is.least c.is.most)
+
     gives : completed_from (uid_after [] c.so.exchanges) (x ∷ []) ≡ u ∷ []
     gives = rw clear (ap (λ (ys : List ℕ). record { uid = ys; sak = sak } ∷ []) uid)
+
     by : (b : Bool) → (length found == 16) ≡ b → Onward steps start found (n + 1) t (if b then Err Many else Ok (turned_back w w.pending (found ++ u ∷ [])))
     by true e =
         let full : length found ≡ 16 = eqb-true (length found) 16 e in
         let all : completed (c.so.exchanges ++ x ∷ []) ≡ found ++ u ∷ [] =
-        completed_snoc [] c.so.exchanges (x ∷ []) ∙ ap (λ us. us ++ completed_from (uid_after [] c.so.exchanges) (x ∷ [])) (sym c.so.made.lists) ∙ ap (λ us. found ++ us) gives in
-        (c.so.exchanges, x, takes_snoc steps start c.so.exchanges s x t c.so.made.takes c.step, c.so.made.fine, c.so.made.lists, c.so.made.few,
-        (fine, ap length all ∙ length-append found (u ∷ []) ∙ ap (λ k. k + 1) full))
+        completed_snoc [] c.so.exchanges (x ∷ []) ∙ ap (λ us. us ++ completed_from (uid_after [] c.so.exchanges) (x ∷ [])) (sym c.so.made.lists) ∙ ap (λ us. found ++ us) gives in (
+          c.so.exchanges,
+          x,
+          takes_snoc steps start c.so.exchanges s x t c.so.made.takes c.step,
+          c.so.made.fine,
+          c.so.made.lists,
+          c.so.made.few,
+          (fine, ap length all ∙ length-append found (u ∷ []) ∙ ap (λ k. k + 1) full),
+        )
     by false e =
         let few : length (found ++ u ∷ []) ≤ 16 = omega (arith, length-append found (u ∷ []), c.so.made.few, eqb-false (length found) 16 e) in
         on_from (back_made steps start w (c.so.exchanges ++ x ∷ []) (found ++ u ∷ []) (n + 1) t w.pending

@@ -1,8 +1,12 @@
-//! Fields of cards, and fields that answer what they should not.
+//! Clean fields, fields of many cards, and fields that answer what they should not.
+ghost use Rattle.std.specs.Prelude.{◌≡◌, ◌≢◌, ◌≤◌, true, false, All, length, IfOk};
+ghost use Rattle.ep_base.specs.Cards.Lawful.{IsUid};
+ghost use Rattle.ep_base.specs.Streams.Causes.{HasCause};
+ghost use Rattle.inventory.specs.Tags.{IsTag, AreTags};
 
 use super::*;
-use crate::bits::{agreement, begins};
 use arrayvec::ArrayVec;
+use ep_base::bit;
 use std::alloc::Global;
 use std::test::Fail;
 
@@ -16,59 +20,279 @@ fn tag(uid: &[u8]) -> Result<Tag, Fail> {
     })
 }
 
-/// What the inventory of cards with these UIDs finds, and its answer.
-fn listed(
-    alloc: Global,
-    uids: &[&[u8]],
-    found: &mut ArrayVec<Tag, 16>,
-) -> Result<Result<u32, InventoryEnd>, Fail> {
-    let mut tags = Vec::new(alloc);
-    for uid in uids {
-        tags.push(tag(uid)?)?;
+// Whether a UID is lawful.
+fn is_uid(uid: &[u8]) -> bool
+    ensures { result ≡ true → IsUid uid.now }
+{
+    match uid.len() {
+        4 => uid[0] != 0x88,
+        7 => uid[3] != 0x88,
+        10 => true,
+        _ => false,
     }
-    let Ok(mut field) = CleanField::open(alloc, tags) else {
+}
+
+// Whether a card can stand in a field.
+fn is_lawful(card: &Tag) -> bool
+    ensures { result ≡ true → IsTag card.now }
+{
+    is_uid(card.uid.as_slice()) && bit(card.sak, 0x04) == 0
+}
+
+// Whether no card of the list has this UID.
+fn is_new(cards: &[Tag], uid: &[u8]) -> bool
+    ensures { result ≡ true → All (λ u. u.uid ≢ uid.now) cards.now }
+{
+    for card in cards {
+        if card.uid.as_slice() == uid {
+            return false;
+        }
+    }
+    true
+}
+
+// Cards with these UIDs, if they are lawful.
+fn tags(alloc: Global, uids: &[&[u8]]) -> Result<Vec<Tag>, Fail>
+    ensures { IfOk result (λ v. AreTags v.items) }
+{
+    let mut cards = Vec::new(alloc);
+    for uid in uids {
+        let card = tag(uid)?;
+        if !is_lawful(&card) || !is_new(&cards, card.uid.as_slice()) {
+            return Err("no such cards".into());
+        }
+        cards.push(card)?;
+    }
+    Ok(cards)
+}
+
+/// A clean field of the cards with these UIDs.
+fn clean(alloc: Global, uids: &[&[u8]]) -> Result<CleanField, Fail> {
+    let cards = tags(alloc, uids)?;
+    if cards.len() > 16 {
+        return Err("too many".into());
+    }
+    let Ok(field) = CleanField::open(alloc, cards) else {
         return Err("no memory".into());
     };
-    Ok(inventory(&mut field, found))
+    Ok(field)
 }
 
+/// A number of exchanges, and UIDs in the order in which they are found.
+type Row = (u32, &'static [&'static [u8]]);
+
+const ROWS: [Row; 4] = [
+    (1, &[]),
+    (
+        10,
+        &[
+            b"\x04\x11\x22\x33\x44\x55\x66",
+            b"\x04\x11\x22\x77\x88\x99\xaa",
+        ],
+    ),
+    (7, &[b"\x02\x02\x03\x04", b"\x01\x02\x03\x04"]),
+    (
+        29,
+        &[
+            b"\x04\x11\x22\x33\x44\x55\x66",
+            b"\x04\x11\x22\x33\x44\x55\xe6",
+            b"\x04\x11\xa2\x33\x44\x55\x66\x77\x88\x19",
+            b"\x04\x11\xa2\x33\x44\x55\x66\x77\x88\x99",
+            b"\x04\x11\xa2\x33\x44\xd5\x66\x77\x88\x19",
+            b"\x01\x02\x03\x04",
+            b"\x01\x02\x03\x84",
+        ],
+    ),
+];
+
 #[test]
-fn two_cards_of_seven_bytes(rt: HostRuntime) -> Result<(), Fail> {
-    let one = b"\x04\x11\x22\x33\x44\x55\x66".as_slice();
-    let other = b"\x04\x11\x22\x77\x88\x99\xaa".as_slice();
-    let mut found = ArrayVec::new();
-    let end = listed(rt.alloc(), &[other, one], &mut found)?;
-    assert_eq!(rt; end, Ok(10));
-    assert_eq!(rt; found.as_slice(), [tag(one)?, tag(other)?].as_slice());
+fn cards_of_clean_fields(rt: HostRuntime) -> Result<(), Fail> {
+    for (exchanges, uids) in &ROWS {
+        let mut field = clean(rt.alloc(), uids)?;
+        let mut found = ArrayVec::new();
+        assert_eq!(rt; inventory(&mut field, &mut found), Ok(*exchanges));
+        assert_eq!(rt; found.len(), uids.len());
+        for (card, uid) in found.as_slice().iter().zip(*uids) {
+            assert_eq!(rt; card.uid.as_slice(), *uid);
+        }
+    }
     Ok(())
 }
 
-#[test]
-fn bits_in_sending_order(rt: HostRuntime) -> Result<(), Fail> {
-    let one = b"\x01\x02\x03\x04".as_slice();
-    let other = b"\x02\x02\x03\x04".as_slice();
-    let mut found = ArrayVec::new();
-    let end = listed(rt.alloc(), &[one, other], &mut found)?;
-    assert_eq!(rt; end, Ok(7));
-    assert_eq!(rt; found.as_slice(), [tag(other)?, tag(one)?].as_slice());
-    Ok(())
-}
-
-#[test]
-fn no_card(rt: HostRuntime) -> Result<(), Fail> {
-    let mut found = ArrayVec::new();
-    assert_eq!(rt; listed(rt.alloc(), &[], &mut found)?, Ok(1));
-    assert_eq!(rt; found.len(), 0);
-    Ok(())
-}
-
-/// A field in which no card answers a question.
+/// A field that answers one thing to the first question and another one to those after it. After so many wakes no card answers,
+/// and after so many calls it fails.
 #[derive(Drop)]
-struct FallsSilent {
+struct Fake {
+    first: BitHeard,
+    later: BitHeard,
+    sak: Option<u8>,
+    wakes: u32,
+    calls: u32,
+    exchanges: u64,
+    faults: u64,
+}
+
+impl Fake {
+    // Takes one of the calls that it answers, or fails.
+    fn takes(&mut self) -> bool
+        ensures cause { HasCause self.old.faults self.new.faults (result ≡ false) }
+        ensures count { self.new.exchanges ≡ self.old.exchanges }
+    {
+        if self.calls == 0 {
+            self.faults = self.faults.saturating_add(1);
+            return false;
+        }
+        self.calls -= 1;
+        true
+    }
+}
+
+impl BitField for Fake {
+    ghost use Rattle.std.specs.Prelude.{ℕ};
+    ghost use Rattle.inventory.specs.Steps.{untold};
+
+    ghost State = { Unit {0} };
+
+    ghost state = { λ _. tt };
+
+    ghost steps = { untold };
+
+    ghost exchanges = { λ f. f.exchanges };
+
+    ghost faults = { λ f. f.faults };
+
+    fn reset(&mut self) -> Result<(), RfFailed> {
+        if self.takes() {
+            Ok(())
+        } else {
+            Err(RfFailed)
+        }
+    }
+
+    fn wake(&mut self) -> Result<bool, RfFailed> {
+        self.exchanges = self.exchanges.saturating_add(1);
+        if !self.takes() {
+            return Err(RfFailed);
+        }
+        if self.wakes == 0 {
+            return Ok(false);
+        }
+        self.wakes -= 1;
+        Ok(true)
+    }
+
+    fn ask(&mut self, _level: u8, _known: &Prefix) -> Result<BitHeard, RfFailed> {
+        self.exchanges = self.exchanges.saturating_add(1);
+        if !self.takes() {
+            return Err(RfFailed);
+        }
+        let heard = self.first;
+        self.first = self.later;
+        Ok(heard)
+    }
+
+    fn select(&mut self, _level: u8, _value: &[u8; 4]) -> Result<Option<u8>, RfFailed> {
+        self.exchanges = self.exchanges.saturating_add(1);
+        if self.takes() {
+            Ok(self.sak)
+        } else {
+            Err(RfFailed)
+        }
+    }
+}
+
+
+/// A field that answers so: one wake is answered, and so many calls.
+fn answering(first: BitHeard, later: BitHeard, sak: Option<u8>, calls: u32) -> Fake {
+    Fake {
+        first,
+        later,
+        sak,
+        wakes: 1,
+        calls,
+        exchanges: 0,
+        faults: 0,
+    }
+}
+
+/// A split at this place, after bits that are 0.
+fn split(at: u8) -> BitHeard {
+    BitHeard::Split { agreed: [0; 4], at }
+}
+
+/// A refusal at a level, with these bytes known in so many bits.
+fn odd(level: u8, bytes: [u8; 4], bits: u8) -> Result<u32, InventoryEnd> {
+    Err(InventoryEnd::Odd {
+        level,
+        known: Prefix { bytes, bits },
+    })
+}
+
+/// The answer of a card whose first bit is 0.
+const EVEN: BitHeard = BitHeard::Level([2, 3, 4, 5, 0]);
+
+#[test]
+fn odd_answers(rt: HostRuntime) -> Result<(), Fail> {
+    let plain = BitHeard::Level([1, 2, 3, 4, 4]);
+    let cascade = BitHeard::Level([0x88, 4, 0x11, 0x22, 0xbf]);
+    let late = BitHeard::Level([0x20, 0, 0, 0, 0x20]);
+    let none = odd(1, [0; 4], 0);
+    let six = odd(1, [0; 4], 6);
+    let whole = odd(1, [1, 2, 3, 4], 32);
+    for (first, later, sak, wanted, count) in [
+        (BitHeard::Silence, plain, Some(0x20), none, 0),
+        (BitHeard::Level([1, 2, 3, 4, 5]), plain, Some(0x20), none, 0),
+        (split(32), plain, Some(0x20), none, 0),
+        (split(5), split(4), Some(0x20), six, 0),
+        (split(5), late, Some(0x20), six, 0),
+        (plain, plain, None, whole, 0),
+        (plain, plain, Some(0x24), whole, 0),
+        (
+            cascade,
+            plain,
+            Some(0x20),
+            odd(1, [0x88, 4, 0x11, 0x22], 32),
+            0,
+        ),
+        (
+            cascade,
+            cascade,
+            Some(0x04),
+            odd(3, [0x88, 4, 0x11, 0x22], 32),
+            0,
+        ),
+        (split(0), EVEN, Some(0x20), none, 1),
+        (plain, plain, Some(0x20), Ok(3), 1),
+    ] {
+        let mut found = ArrayVec::new();
+        let mut field = answering(first, later, sak, 100);
+        assert_eq!(rt; inventory(&mut field, &mut found), wanted);
+        assert_eq!(rt; found.len(), count);
+    }
+    Ok(())
+}
+
+#[test]
+fn each_call_fails(rt: HostRuntime) -> Result<(), Fail> {
+    for calls in 0..=5 {
+        let mut found = ArrayVec::new();
+        let mut field = answering(split(0), EVEN, Some(0x20), calls);
+        let end = inventory(&mut field, &mut found);
+        assert_eq!(rt; end, Err(InventoryEnd::Device));
+        assert_eq!(rt; field.exchanges, u64::from(calls));
+        assert_eq!(rt; (field.faults, found.len()), (1, usize::from(calls == 5)));
+    }
+    Ok(())
+}
+
+/// A field of 16 cards whose values differ in their first four bits, or of 17: then two begin with four bits that are 1.
+#[derive(Drop)]
+struct Crowd {
+    more: bool,
     exchanges: u64,
 }
 
-impl BitField for FallsSilent {
+impl BitField for Crowd {
     ghost use Rattle.std.specs.Prelude.{ℕ};
     ghost use Rattle.inventory.specs.Steps.{untold};
 
@@ -91,273 +315,40 @@ impl BitField for FallsSilent {
         Ok(true)
     }
 
-    fn ask(&mut self, _level: u8, _known: &Prefix) -> Result<BitHeard, RfFailed> {
-        self.exchanges = self.exchanges.saturating_add(1);
-        Ok(BitHeard::Silence)
-    }
-
-    fn select(&mut self, _level: u8, _value: &[u8; 4]) -> Result<Option<u8>, RfFailed> {
-        self.exchanges = self.exchanges.saturating_add(1);
-        Ok(None)
-    }
-}
-
-#[test]
-fn silence_after_wake(rt: HostRuntime) -> Result<(), Fail> {
-    let mut field = FallsSilent { exchanges: 0 };
-    let mut found = ArrayVec::new();
-    let odd = InventoryEnd::Odd {
-        level: 1,
-        known: Prefix {
-            bytes: [0; 4],
-            bits: 0,
-        },
-    };
-    assert_eq!(rt; inventory(&mut field, &mut found), Err(odd));
-    assert_eq!(rt; found.len(), 0);
-    assert_eq!(rt; field.exchanges, 2);
-    Ok(())
-}
-
-/// So many cards of four bytes that differ in their last byte alone, and what the inventory finds of them.
-fn of_many(
-    alloc: Global,
-    count: u8,
-    found: &mut ArrayVec<Tag, 16>,
-) -> Result<Result<u32, InventoryEnd>, Fail> {
-    let mut tags = Vec::new(alloc);
-    for last in 0..count {
-        tags.push(tag(&[1, 2, 3, last])?)?;
-    }
-    let Ok(mut field) = CleanField::open(alloc, tags) else {
-        return Err("no memory".into());
-    };
-    Ok(inventory(&mut field, found))
-}
-
-/// The last bytes of 16 numbers in sending order of their bits.
-const TURNED: [u8; 16] = [0, 8, 4, 12, 2, 10, 6, 14, 1, 9, 5, 13, 3, 11, 7, 15];
-
-#[test]
-fn sixteen_cards(rt: HostRuntime) -> Result<(), Fail> {
-    let mut found = ArrayVec::new();
-    assert_eq!(rt; of_many(rt.alloc(), 16, &mut found)?, Ok(63));
-    assert_eq!(rt; found.len(), 16);
-    for (card, last) in found.as_slice().iter().zip(TURNED.as_slice()) {
-        assert_eq!(rt; card.uid.as_slice(), [1, 2, 3, *last].as_slice());
-    }
-    Ok(())
-}
-
-#[test]
-fn cards_that_differ_in_the_last_bit_of_a_level(rt: HostRuntime) -> Result<(), Fail> {
-    let uids = [
-        b"\x01\x02\x03\x04".as_slice(),
-        b"\x01\x02\x03\x84".as_slice(),
-        b"\x04\x11\x22\x33\x44\x55\x66".as_slice(),
-        b"\x04\x11\x22\x33\x44\x55\xe6".as_slice(),
-        b"\x04\x11\xa2\x33\x44\x55\x66\x77\x88\x99".as_slice(),
-        b"\x04\x11\xa2\x33\x44\x55\x66\x77\x88\x19".as_slice(),
-        b"\x04\x11\xa2\x33\x44\xd5\x66\x77\x88\x19".as_slice(),
-    ];
-    let mut found = ArrayVec::new();
-    let end = listed(rt.alloc(), uids.as_slice(), &mut found)?;
-    assert_eq!(rt; end, Ok(29));
-    let wanted = [
-        uids[2], uids[3], uids[5], uids[4], uids[6], uids[0], uids[1],
-    ];
-    assert_eq!(rt; found.len(), 7);
-    for (card, uid) in found.as_slice().iter().zip(wanted.as_slice()) {
-        assert_eq!(rt; card.uid.as_slice(), *uid);
-    }
-    Ok(())
-}
-
-/// So many cards of four bytes that differ in their last byte alone, at the first level of their UIDs at each time.
-#[derive(Drop)]
-struct Crowd {
-    count: u8,
-}
-
-impl BitField for Crowd {
-    ghost use Rattle.std.specs.Prelude.{ℕ};
-    ghost use Rattle.inventory.specs.Steps.{untold};
-
-    ghost State = { Unit {0} };
-
-    ghost state = { λ _. tt };
-
-    ghost steps = { untold };
-
-    ghost exchanges = { λ _. 2 ^ 64 - 1 };
-
-    ghost faults = { λ _. 0 };
-
-    fn reset(&mut self) -> Result<(), RfFailed> {
-        Ok(())
-    }
-
-    fn wake(&mut self) -> Result<bool, RfFailed> {
-        Ok(self.count > 0)
-    }
-
     fn ask(&mut self, _level: u8, known: &Prefix) -> Result<BitHeard, RfFailed> {
-        let mut heard: Option<([u8; 4], u8)> = None;
-        for last in 0..self.count {
-            let value = [1, 2, 3, last];
-            if begins(&value, known) {
-                heard = match heard {
-                    None => Some((value, 32)),
-                    Some((first, same)) => Some((first, agreement(&first, &value, same))),
-                };
-            }
+        self.exchanges = self.exchanges.saturating_add(1);
+        let bytes = known.bytes;
+        let at = known.bits;
+        if at < 4 || (at == 4 && bytes[0] == 15 && self.more) {
+            return Ok(BitHeard::Split { agreed: bytes, at });
         }
-        Ok(match heard {
-            None => BitHeard::Silence,
-            Some(([a, b, c, d], 32)) => BitHeard::Level([a, b, c, d, (a ^ b) ^ (c ^ d)]),
-            Some((agreed, at)) => BitHeard::Split { agreed, at },
-        })
+        Ok(BitHeard::Level([bytes[0], 0, 0, 0, bytes[0]]))
     }
 
     fn select(&mut self, _level: u8, _value: &[u8; 4]) -> Result<Option<u8>, RfFailed> {
+        self.exchanges = self.exchanges.saturating_add(1);
         Ok(Some(0x20))
     }
 }
 
 #[test]
-fn seventeen_cards(rt: HostRuntime) -> Result<(), Fail> {
-    let mut found = ArrayVec::new();
-    let mut field = Crowd { count: 17 };
-    assert_eq!(rt; inventory(&mut field, &mut found), Err(InventoryEnd::Many));
-    let wanted = [0, 16, 8, 4, 12, 2, 10, 6, 14, 1, 9, 5, 13, 3, 11, 7];
-    assert_eq!(rt; found.len(), 16);
-    for (card, last) in found.as_slice().iter().zip(wanted.as_slice()) {
-        assert_eq!(rt; card.uid.as_slice(), [1, 2, 3, *last].as_slice());
-    }
-    Ok(())
-}
-
-/// A field that answers one thing to each question, and one to each selection, or fails from a call on.
-#[derive(Drop)]
-struct Stubborn {
-    heard: BitHeard,
-    sak: Option<u8>,
-    calls: u32,
-    fails: u32,
-    faults: u64,
-}
-
-/// A field that answers so, and doesn't fail.
-fn answering(heard: BitHeard, sak: Option<u8>) -> Stubborn {
-    Stubborn {
-        heard,
-        sak,
-        calls: 0,
-        fails: 1000,
-        faults: 0,
-    }
-}
-
-impl Stubborn {
-    /// One call more, and whether it fails.
-    fn fails_now(&mut self) -> bool {
-        self.calls = self.calls.saturating_add(1);
-        if self.calls < self.fails {
-            return false;
-        }
-        self.faults = self.faults.saturating_add(1);
-        true
-    }
-}
-
-impl BitField for Stubborn {
-    ghost use Rattle.std.specs.Prelude.{ℕ};
-    ghost use Rattle.inventory.specs.Steps.{untold};
-
-    ghost State = { Unit {0} };
-
-    ghost state = { λ _. tt };
-
-    ghost steps = { untold };
-
-    ghost exchanges = { λ _. 2 ^ 64 - 1 };
-
-    ghost faults = { λ f. f.faults };
-
-    fn reset(&mut self) -> Result<(), RfFailed> {
-        if self.fails_now() {
-            Err(RfFailed)
-        } else {
-            Ok(())
-        }
-    }
-
-    fn wake(&mut self) -> Result<bool, RfFailed> {
-        if self.fails_now() {
-            Err(RfFailed)
-        } else {
-            Ok(true)
-        }
-    }
-
-    fn ask(&mut self, _level: u8, _known: &Prefix) -> Result<BitHeard, RfFailed> {
-        if self.fails_now() {
-            Err(RfFailed)
-        } else {
-            Ok(self.heard)
-        }
-    }
-
-    fn select(&mut self, _level: u8, _value: &[u8; 4]) -> Result<Option<u8>, RfFailed> {
-        if self.fails_now() {
-            Err(RfFailed)
-        } else {
-            Ok(self.sak)
-        }
-    }
-}
-
-/// A refusal at a level, with these bytes known in so many bits.
-fn odd(level: u8, bytes: [u8; 4], bits: u8) -> Result<u32, InventoryEnd> {
-    Err(InventoryEnd::Odd {
-        level,
-        known: Prefix { bytes, bits },
-    })
-}
-
-#[test]
-fn odd_answers(rt: HostRuntime) -> Result<(), Fail> {
-    let plain = BitHeard::Level([1, 2, 3, 4, 4]);
-    let cascade = BitHeard::Level([0x88, 4, 0x11, 0x22, 0xbf]);
-    let split = |at: u8| BitHeard::Split { agreed: [0; 4], at };
-    let none = odd(1, [0; 4], 0);
-    for (heard, sak, wanted) in [
-        (BitHeard::Level([1, 2, 3, 4, 5]), Some(0x20), none),
-        (split(32), Some(0x20), none),
-        (split(5), Some(0x20), odd(1, [0; 4], 6)),
-        (plain, None, odd(1, [1, 2, 3, 4], 32)),
-        (plain, Some(0x24), odd(1, [1, 2, 3, 4], 32)),
-        (cascade, Some(0x20), odd(1, [0x88, 4, 0x11, 0x22], 32)),
-        (cascade, Some(0x04), odd(3, [0x88, 4, 0x11, 0x22], 32)),
-        (plain, Some(0x20), Ok(3)),
-    ] {
+fn crowds(rt: HostRuntime) -> Result<(), Fail> {
+    for more in [false, true] {
+        let mut field = Crowd { more, exchanges: 0 };
         let mut found = ArrayVec::new();
-        let mut field = answering(heard, sak);
-        assert_eq!(rt; inventory(&mut field, &mut found), wanted);
-        assert_eq!(rt; found.len(), usize::from(wanted.is_ok()));
-    }
-    Ok(())
-}
-
-#[test]
-fn each_call_fails(rt: HostRuntime) -> Result<(), Fail> {
-    for fails in 1..=4 {
-        let mut found = ArrayVec::new();
-        let mut field = answering(BitHeard::Level([1, 2, 3, 4, 4]), Some(0x20));
-        field.fails = fails;
         let end = inventory(&mut field, &mut found);
-        assert_eq!(rt; end, Err(InventoryEnd::Device));
-        assert_eq!(rt; (field.calls, field.faults, found.len()), (fails, 1, 0));
+        let wanted = if more {
+            Err(InventoryEnd::Many)
+        } else {
+            Ok(63)
+        };
+        assert_eq!(rt; end, wanted);
+        assert_eq!(rt; field.exchanges, if more { 67 } else { 63 });
+        let firsts = [0, 8, 4, 12, 2, 10, 6, 14, 1, 9, 5, 13, 3, 11, 7, 15];
+        assert_eq!(rt; found.len(), 16);
+        for (card, first) in found.as_slice().iter().zip(firsts.as_slice()) {
+            assert_eq!(rt; card.uid.as_slice(), [*first, 0, 0, 0].as_slice());
+        }
     }
     Ok(())
 }

@@ -24,9 +24,9 @@ turns-init g c = record {
     g.F.BitField.state c.reset.new.self,
     c.in-Ok.ensures.step,
     subst (λ (w : Walk). Sofar g.F.BitField.steps (g.F.BitField.state c.reset.new.self) w c.args.found.now.items 1 (g.F.BitField.state c.wake.new.self)) (sym c.start-walk.ensures)
-    (begun_makes g.F.BitField.steps (g.F.BitField.state c.reset.new.self) (g.F.BitField.state c.wake.new.self)
-    (subst (λ (b : Bool). g.F.BitField.steps.wakes (g.F.BitField.state c.reset.new.self) (Some b) (g.F.BitField.state c.wake.new.self)) c.in-Ok-true.field-0-test c.in-Ok-true.ensures.step)
-    c.args.found.now.items (empty_list c.args.found.now.items c.requires)),
+        (begun_makes g.F.BitField.steps (g.F.BitField.state c.reset.new.self) (g.F.BitField.state c.wake.new.self)
+        (subst (λ (b : Bool). g.F.BitField.steps.wakes (g.F.BitField.state c.reset.new.self) (Some b) (g.F.BitField.state c.wake.new.self)) c.in-Ok-true.field-0-test c.in-Ok-true.ensures.step)
+        c.args.found.now.items (empty_list c.args.found.now.items c.requires)),
   );
   finds = λ shown told are.
       subst (λ (w : Walk). Partway (tags_of (shown (g.F.BitField.state c.args.field.now))) (shown (g.F.BitField.state c.wake.new.self)) w c.args.found.now.items) (sym c.start-walk.ensures)
@@ -70,7 +70,6 @@ turns-smaller g c =
     leads g.F.BitField.steps at.walk at.found.items (g.F.BitField.state at.field) (Ok u) (g.F.BitField.state c.turn.new.field) at.invariant.stands at.invariant.few c.in-Ok-turn.ensures.turns in
     let on : GoesOn at.walk n u = subst (λ (b : Bool). LeadsBy b at.walk n u) c.if-over.false led in
     on.falls
-
 
 pub returns-in_default-clause-finds : goal.returns-in_default-clause-finds
 returns-in_default-clause-finds g c =
@@ -125,8 +124,8 @@ returns-in-Ok-false-clause-comes g c = inr (
   g.F.BitField.state c.reset.new.self,
   c.in-Ok.ensures.step,
   none_makes g.F.BitField.steps (g.F.BitField.state c.reset.new.self) (g.F.BitField.state c.wake.new.self)
-  (subst (λ (b : Bool). g.F.BitField.steps.wakes (g.F.BitField.state c.reset.new.self) (Some b) (g.F.BitField.state c.wake.new.self)) c.in-Ok-false.field-0-test c.in-Ok-false.ensures.step)
-  c.args.found.now.items (empty_list c.args.found.now.items c.requires),
+      (subst (λ (b : Bool). g.F.BitField.steps.wakes (g.F.BitField.state c.reset.new.self) (Some b) (g.F.BitField.state c.wake.new.self)) c.in-Ok-false.field-0-test c.in-Ok-false.ensures.step)
+      c.args.found.now.items (empty_list c.args.found.now.items c.requires),
 )
 
 pub returns-in-Err-turn-clause-comes : goal.returns-in-Err-turn-clause-comes
