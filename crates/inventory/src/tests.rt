@@ -1,5 +1,5 @@
 //! Clean fields, fields of many cards, and fields that answer what they should not.
-ghost use Rattle.std.specs.Prelude.{◌≡◌, ◌≢◌, ◌≤◌, true, false, All, length, IfOk};
+ghost use Rattle.std.specs.Prelude.{◌≡◌, ◌≢◌, ◌≤◌, ◌<◌, true, false, All, length, IfOk};
 ghost use Rattle.ep_base.specs.Cards.Lawful.{IsUid};
 ghost use Rattle.ep_base.specs.Streams.Causes.{HasCause};
 ghost use Rattle.inventory.specs.Tags.{IsTag, AreTags};
@@ -22,7 +22,7 @@ fn tag(uid: &[u8]) -> Result<Tag, Fail> {
 
 // Whether a UID is lawful.
 fn is_uid(uid: &[u8]) -> bool
-    ensures { result ≡ true → IsUid uid.now }
+    ensures { result ≡ true → IsUid uid.now × All (λ b. b < 256) uid.now }
 {
     match uid.len() {
         4 => uid[0] != 0x88,
@@ -162,11 +162,7 @@ impl BitField for Fake {
     ghost faults = { λ f. f.faults };
 
     fn reset(&mut self) -> Result<(), RfFailed> {
-        if self.takes() {
-            Ok(())
-        } else {
-            Err(RfFailed)
-        }
+        if self.takes() { Ok(()) } else { Err(RfFailed) }
     }
 
     fn wake(&mut self) -> Result<bool, RfFailed> {
@@ -200,7 +196,6 @@ impl BitField for Fake {
         }
     }
 }
-
 
 /// A field that answers so: one wake is answered, and so many calls.
 fn answering(first: BitHeard, later: BitHeard, sak: Option<u8>, calls: u32) -> Fake {
