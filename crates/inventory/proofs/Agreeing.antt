@@ -1,10 +1,9 @@
 -- Values that agree in their first bits.
-use Rattle.std.proofs.Common.{◌≡◌, ℕ, zero, suc, ◌+◌, ◌<◌, ◌≤◌, Bool, true, false, List, [], ◌∷◌, ◌++◌, map, length, take, Option, Some, None, IfSome, refl, sym, ap, ◌∙◌, subst, arith, if◌then◌else◌}
+use Rattle.std.proofs.Common.{◌≡◌, ℕ, ◌≤◌, Bool, true, false, List, [], ◌∷◌, ◌++◌, map, length, take, Option, Some, None, IfSome, refl, sym, ap, ◌∙◌, subst, arith, if◌then◌else◌}
 use Rattle.std.specs.List.{filter}
 use Rattle.std.proofs.lemmas.List.{length-take-le, take_all}
 use Rattle.inventory.specs.declared.field.Prefix.{Prefix}
-use Rattle.inventory.specs.declared.field.BitHeard.{BitHeard}
-use Rattle.inventory.specs.declared.field.BitHeard.TheVariants.{Silence, Level, Split}
+use Rattle.inventory.specs.declared.field.BitHeard.TheVariants.{Level, Split}
 use Rattle.ep_base.specs.Cards.TypeA.{bcc}
 use Rattle.inventory.specs.Bits.{bits_of, shared}
 use Rattle.inventory.specs.Told.{Stood, agreed, hears, value_at, heard_values, IsHeard}

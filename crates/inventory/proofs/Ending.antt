@@ -1,12 +1,10 @@
 -- How an inventory begins and ends.
-use Rattle.std.proofs.Common.{◌≡◌, ℕ, zero, suc, ◌+◌, ◌<◌, ◌≤◌, Bool, true, false, List, [], ◌∷◌, ◌++◌, length, map, take, Option, Some, None, Result, Ok, Err, refl, sym, ap, ◌∙◌, arith, ◌⊎◌, inl, inr, subst, if◌then◌else◌}
-use Rattle.std.specs.List.{filter}
+use Rattle.std.proofs.Common.{◌≡◌, ℕ, ◌+◌, ◌≤◌, Bool, true, false, List, [], ◌∷◌, ◌++◌, length, take, Some, None, Ok, Err, refl, sym, ap, ◌∙◌, arith, inl, subst, if◌then◌else◌}
 use Rattle.std.proofs.Math.Seq.{take-append_seam}
-use Rattle.std.proofs.lemmas.List.{append-nil, length-append}
+use Rattle.std.proofs.lemmas.List.{append-nil}
 use Rattle.inventory.specs.declared.listing.InventoryEnd.{InventoryEnd}
 use Rattle.inventory.specs.declared.listing.InventoryEnd.TheVariants.{Device, Odd, Many}
-use Rattle.inventory.specs.Bits.{begins}
-use Rattle.inventory.specs.Exchanges.{Exchange, Woken, ComesTo, Comes}
+use Rattle.inventory.specs.Exchanges.{Woken, ComesTo}
 use Rattle.inventory.specs.Finds.{Finds}
 use Rattle.inventory.specs.Steps.{BitSteps}
 use Rattle.inventory.specs.Tags.{Tag, before, spelled, insert, in_order}
@@ -14,10 +12,10 @@ use Rattle.inventory.specs.Told.{Stood, Mute, At, Tells, tags_of, is_some_there}
 use Rattle.inventory.specs.Walks.{Turned, Walk, begun}
 use Rattle.inventory.proofs.Finding.{Partway, FinishesBy, Finishes, waiting}
 use Rattle.inventory.proofs.Paths.{path_bits}
-use Rattle.inventory.proofs.Making.{Made, Sofar}
+use Rattle.inventory.proofs.Making.{Sofar}
 use Rattle.inventory.proofs.Members.{In}
 use Rattle.inventory.proofs.Ordering.{under}
-use Rattle.inventory.proofs.Reading.{IsValue, Value}
+use Rattle.inventory.proofs.Reading.{Value}
 use Rattle.inventory.proofs.Standing.{standing, placed_tags, woken_stand}
 
 pub empty_list : {A : Type 0} → (xs : List A) → length xs ≡ 0 → xs ≡ []

@@ -1,28 +1,26 @@
 -- An inventory over a field that tells lawful cards: what is found, what is followed and what waits are all of them, in order.
-use Rattle.std.proofs.Common.{◌≡◌, ℕ, zero, suc, ◌+◌, ◌<◌, ◌≤◌, ◌==◌, nat_lt, nat_le, Bool, true, false, ◌&&◌, not, List, [], ◌∷◌, ◌++◌, length, map, take, slice_index, Option, Some, None, Result, Ok, Err, refl, sym, ap, ◌∙◌, arith, ◌⊎◌, inl, inr, subst, if◌then◌else◌}
-use Rattle.std.proofs.lemmas.Bool.{and_parts, eq-eqb, lt-ltb}
-use Rattle.std.proofs.lemmas.List.{append_assoc, length-append, length-take-le, take_all}
-use Rattle.ep_base.specs.Cards.TypeA.{bcc, is_level, levels, level_bytes}
+use Rattle.std.proofs.Common.{◌≡◌, ℕ, ◌<◌, ◌≤◌, Bool, true, false, ◌&&◌, List, [], ◌∷◌, ◌++◌, length, map, take, Option, Some, None, Result, Ok, Err, refl, sym, ap, ◌∙◌, arith, ◌⊎◌, inl, inr, subst, if◌then◌else◌}
+use Rattle.std.proofs.lemmas.Bool.{and_parts, eq-eqb}
+use Rattle.std.proofs.lemmas.List.{length-take-le, take_all}
+use Rattle.ep_base.specs.Cards.TypeA.{bcc, is_level, level_bytes}
 use Rattle.inventory.specs.declared.field.Prefix.{Prefix}
-use Rattle.inventory.specs.declared.field.BitHeard.{BitHeard}
-use Rattle.inventory.specs.declared.field.BitHeard.TheVariants.{Silence, Level, Split}
+use Rattle.inventory.specs.declared.field.BitHeard.TheVariants.{Level}
 use Rattle.inventory.specs.declared.listing.InventoryEnd.{InventoryEnd}
 use Rattle.inventory.specs.declared.listing.InventoryEnd.TheVariants.{Device, Odd, Many}
 use Rattle.inventory.specs.declared.walk.Path.{Path}
 use Rattle.inventory.specs.Bits.{bits_of, known_bits, begins}
-use Rattle.inventory.specs.Prefixes.{with_bit}
 use Rattle.inventory.specs.Steps.{BitSteps}
 use Rattle.inventory.specs.Tags.{Tag, IsTag, spelled, in_order}
-use Rattle.inventory.specs.Told.{Stood, At, Tells, tags_of, woken, is_some_there, heard_values, agreed, HeardAs, IsHeard}
-use Rattle.inventory.specs.Turns.{after_wake, after_ask, goes}
-use Rattle.inventory.specs.Walks.{Walk, Turned, nothing, at, with_at, known_of, odd, with_value, branched, after_heard}
-use Rattle.inventory.proofs.Beginnings.{begins_front, begins_self, begins_chain, begins_both, begins_whole, begins_length}
-use Rattle.inventory.proofs.Members.{In, in_filter, filter_in, filter_same, longer_of, same_truth, agreed_first, agreed_each, agreed_most, agreed_parts, Parts}
-use Rattle.inventory.proofs.Ordering.{under, in_two_parts}
-use Rattle.inventory.proofs.Paths.{path_bits, Chain, path_parts, nothing_beyond, value_at, Put, put, beyond}
+use Rattle.inventory.specs.Told.{Stood, At, Tells, tags_of, is_some_there, agreed}
+use Rattle.inventory.specs.Turns.{after_wake, goes}
+use Rattle.inventory.specs.Walks.{Walk, Turned, with_at, known_of, odd, with_value, after_heard}
+use Rattle.inventory.proofs.Beginnings.{begins_front, begins_chain, begins_whole, begins_length}
+use Rattle.inventory.proofs.Members.{In, in_filter, filter_in, filter_same, same_truth, agreed_first, agreed_each, agreed_most}
+use Rattle.inventory.proofs.Ordering.{under}
+use Rattle.inventory.proofs.Paths.{path_bits, Chain, path_parts, nothing_beyond, value_at, put}
 use Rattle.inventory.proofs.Reading.{IsValue, Value, value_length, Cascades, Lower, prior, Reads, reads, hear}
-use Rattle.inventory.proofs.Spelling.{length_four, known_with_bit}
-use Rattle.inventory.proofs.Standing.{standing, placed_tags, woken_stand, some_there, heard_stand}
+use Rattle.inventory.proofs.Spelling.{length_four}
+use Rattle.inventory.proofs.Standing.{standing, placed_tags, woken_stand, some_there}
 
 -- A card's bits begin with those of a path.
 pub record Held (p : Path) (ts : List Tag) : Type 0 where

@@ -1,5 +1,5 @@
 -- What a turn of a walk leads to: it stands again, and its bounds hold.
-use Rattle.std.proofs.Common.{◌≡◌, ℕ, zero, suc, ◌+◌, ◌*◌, ◌-◌, ◌^◌, ◌%◌, ◌<◌, ◌≤◌, ◌==◌, nat_lt, nat_le, Bool, true, false, ◌&&◌, List, [], ◌∷◌, ◌++◌, length, take, drop, replicate, Option, Some, None, Result, Ok, Err, ◌⊎◌, inl, inr, refl, sym, ap, ◌∙◌, subst, arith, length-append, if◌then◌else◌}
+use Rattle.std.proofs.Common.{◌≡◌, ℕ, ◌+◌, ◌*◌, ◌-◌, ◌<◌, ◌≤◌, ◌==◌, nat_lt, nat_le, Bool, true, false, ◌&&◌, List, [], ◌∷◌, ◌++◌, length, take, Option, Some, None, Result, Ok, Err, refl, sym, ap, subst, arith, length-append, if◌then◌else◌}
 use Rattle.std.specs.Prelude.{All}
 use Rattle.std.proofs.lemmas.List.{length-take-le, drop_all}
 use Rattle.std.proofs.lemmas.List.Elements.{All-cons, All-nil, All-head, All-tail}
@@ -10,13 +10,13 @@ use Rattle.inventory.specs.declared.field.Prefix.{Prefix}
 use Rattle.inventory.specs.declared.field.BitHeard.{BitHeard}
 use Rattle.inventory.specs.declared.field.BitHeard.TheVariants.{Silence, Level, Split}
 use Rattle.inventory.specs.declared.listing.InventoryEnd.{InventoryEnd}
-use Rattle.inventory.specs.declared.listing.InventoryEnd.TheVariants.{Device, Odd, Many}
+use Rattle.inventory.specs.declared.listing.InventoryEnd.TheVariants.{Many}
 use Rattle.inventory.specs.declared.walk.Path.{Path}
 use Rattle.inventory.specs.Bits.{bits, bits_of, known_bits, begins}
 use Rattle.inventory.specs.Prefixes.{with_bit}
 use Rattle.inventory.specs.Steps.{BitSteps}
 use Rattle.inventory.specs.Tags.{Tag}
-use Rattle.inventory.specs.Walks.{Walk, Turned, nothing, blank, begun, at, with_at, known_of, odd, with_value, branched, after_heard, after_sak, after_selected, completed, turned_back, tells_more, uid_at, IsPrefix, IsPath, IsWalk, IsClearEnd, Falls, position}
+use Rattle.inventory.specs.Walks.{Walk, Turned, nothing, begun, at, with_at, known_of, odd, with_value, branched, completed, turned_back, tells_more, uid_at, IsPrefix, IsPath, IsWalk, IsClearEnd, Falls, position}
 use Rattle.inventory.specs.Turns.{Turns, TurnsBy, after_wake, after_ask, after_select, goes, used, spent, left, left_by}
 use Rattle.inventory.proofs.Spelling.{length_four, with_bit_clear}
 

@@ -1,7 +1,7 @@
 -- The exchanges that an inventory makes, and what they complete.
-use Rattle.std.proofs.Common.{◌≡◌, ℕ, zero, suc, ◌+◌, ◌<◌, ◌≤◌, ◌==◌, nat_lt, nat_le, Bool, true, false, ◌&&◌, ◌||◌, not, List, [], ◌∷◌, ◌++◌, length, take, drop, slice_index, Option, Some, None, Result, Ok, Err, refl, sym, ap, ◌∙◌, arith, ◌⊎◌, inl, inr, subst, if◌then◌else◌}
-use Rattle.std.proofs.lemmas.Bool.{eqb-true, eqb-false, le-ltb, lt-ltb, leb-true, leb-false, le-leb, ltb-true, ltb-false, and_parts}
-use Rattle.std.proofs.lemmas.List.{append-nil, append_assoc, length-append}
+use Rattle.std.proofs.Common.{◌≡◌, ℕ, zero, suc, ◌+◌, ◌<◌, ◌≤◌, ◌==◌, nat_lt, nat_le, Bool, true, false, ◌&&◌, ◌||◌, not, List, [], ◌∷◌, ◌++◌, length, take, drop, Option, Some, None, Result, Ok, Err, refl, sym, ap, ◌∙◌, arith, inr, subst, if◌then◌else◌}
+use Rattle.std.proofs.lemmas.Bool.{eqb-true, eqb-false, le-ltb, lt-ltb, leb-true, leb-false, ltb-true, ltb-false, and_parts}
+use Rattle.std.proofs.lemmas.List.{append-nil, length-append}
 use Rattle.ep_base.specs.Cards.Activation.{bit}
 use Rattle.ep_base.specs.Cards.TypeA.{is_level}
 use Rattle.inventory.specs.declared.field.Prefix.{Prefix}
@@ -11,12 +11,12 @@ use Rattle.inventory.specs.declared.listing.InventoryEnd.{InventoryEnd}
 use Rattle.inventory.specs.declared.listing.InventoryEnd.TheVariants.{Device, Odd, Many}
 use Rattle.inventory.specs.declared.walk.Path.{Path}
 use Rattle.inventory.specs.Bits.{bits_of, known_bits, begins}
-use Rattle.inventory.specs.Exchanges.{Exchange, Woken, Asked, Selected, Takes, TakesAll, has_failed, whole, is_odd_heard, is_odd_sak, Refused, odd_at, completed_from, completed, AreFine, EndsBy, ComesTo}
+use Rattle.inventory.specs.Exchanges.{Exchange, Woken, Asked, Selected, Takes, TakesAll, has_failed, whole, is_odd_heard, odd_at, completed_from, completed, AreFine, EndsBy, ComesTo}
 use Rattle.inventory.specs.Prefixes.{with_bit}
 use Rattle.inventory.specs.Steps.{BitSteps}
 use Rattle.inventory.specs.Tags.{Tag}
 use Rattle.inventory.specs.Turns.{Turns, TurnsBy, after_wake, after_ask, after_select, goes}
-use Rattle.inventory.specs.Walks.{Walk, Turned, IsWalk, nothing, at, with_at, known_of, odd, with_value, branched, after_heard, uid_at, turned_back, tells_more, completed as complete, after_sak, after_selected}
+use Rattle.inventory.specs.Walks.{Walk, Turned, IsWalk, nothing, at, with_at, known_of, odd, uid_at, turned_back, tells_more, completed as complete}
 use Rattle.inventory.proofs.Leading.{path_at}
 use Rattle.inventory.proofs.Reading.{uid_before, uid_is_at}
 

@@ -1,13 +1,13 @@
 -- Cards of a list.
-use Rattle.std.proofs.Common.{◌≡◌, ◌≢◌, ℕ, zero, suc, ◌+◌, ◌<◌, ◌≤◌, Bool, true, false, ◌&&◌, not, List, [], ◌∷◌, ◌++◌, length, map, Option, Some, None, refl, sym, ap, ◌∙◌, arith, ◌⊎◌, inl, inr, subst, if◌then◌else◌}
+use Rattle.std.proofs.Common.{◌≡◌, ◌≢◌, ℕ, zero, suc, ◌<◌, ◌≤◌, Bool, true, false, not, List, [], ◌∷◌, ◌++◌, length, map, refl, sym, ap, ◌∙◌, arith, ◌⊎◌, inl, inr, subst, if◌then◌else◌}
 use Rattle.std.specs.Prelude.{All}
 use Rattle.std.specs.List.{filter}
 use Rattle.std.proofs.lemmas.List.Elements.{All-head, All-tail}
 use Rattle.inventory.specs.Bits.{bits_of, begins, shared}
-use Rattle.inventory.specs.Tags.{Tag, AreApart, spelled, in_order}
+use Rattle.inventory.specs.Tags.{Tag, AreApart, spelled}
 use Rattle.inventory.specs.Told.{agreed}
 use Rattle.inventory.proofs.Beginnings.{Differ, begins_self, begins_chain, begins_length, shared_left, shared_right, shared_most, shared_differ, begins_whole}
-use Rattle.inventory.proofs.Ordering.{under, Agree, same_filter, Longer}
+use Rattle.inventory.proofs.Ordering.{Agree, same_filter, Longer}
 
 -- A card is one of the list.
 abbrev pub In : Tag → List Tag → Type 0

@@ -1,15 +1,14 @@
 -- Where a walk can stand.
-use Rattle.std.proofs.Common.{◌≡◌, ℕ, ◌+◌, get_or, ◌⊎◌, inl, inr, ◌-◌, ◌<◌, ◌≤◌, ◌==◌, nat_lt, Bool, true, false, List, [], ◌∷◌, length, reverse, refl, sym, ap, ◌∙◌, arith, if◌then◌else◌}
+use Rattle.std.proofs.Common.{◌≡◌, ℕ, get_or, inl, inr, ◌-◌, ◌<◌, ◌≤◌, ◌==◌, nat_lt, Bool, true, false, List, [], ◌∷◌, length, reverse, refl, ap, ◌∙◌, arith, if◌then◌else◌}
 use Rattle.std.specs.Prelude.{All}
 use Rattle.std.proofs.lemmas.List.{length-reverse}
 use Rattle.ep_base.specs.Cards.Lawful.{IsUid, Four, Seven, Ten}
-use Rattle.inventory.specs.declared.field.Prefix.{Prefix}
 use Rattle.inventory.specs.declared.walk.Path.{Path}
 use Rattle.inventory.specs.CardView.{HasLevels, TagFits}
 use Rattle.inventory.specs.Tags.{Tag, IsTag}
-use Rattle.inventory.specs.Turns.{spent, used}
+use Rattle.inventory.specs.Turns.{spent}
 use Rattle.inventory.proofs.Leading.{used_most}
-use Rattle.inventory.specs.Walks.{Walk, IsPath, IsWalk, Falls, position, at, known_of}
+use Rattle.inventory.specs.Walks.{Walk, IsPath, IsWalk, Falls, position, known_of}
 
 uid_levels : (uid : List ℕ) → IsUid uid → HasLevels uid
 uid_levels _ (Four a b c d n) = inl refl

@@ -1,21 +1,20 @@
 -- An inventory that selects a value, over a field that tells lawful cards.
-use Rattle.std.proofs.Common.{◌≡◌, ◌≢◌, ℕ, zero, suc, ◌+◌, ◌<◌, ◌≤◌, ◌==◌, nat_lt, Bool, true, false, ◌&&◌, List, [], ◌∷◌, ◌++◌, length, map, slice_index, Option, Some, None, Result, Ok, Err, refl, sym, ap, ◌∙◌, arith, ◌⊎◌, inl, inr, subst, if◌then◌else◌}
-use Rattle.std.specs.Prelude.{All}
-use Rattle.std.proofs.lemmas.Bool.{and_parts, eqb-true, eqb-false, ltb-true, ltb-false, eq-eqb}
+use Rattle.std.proofs.Common.{◌≡◌, ℕ, zero, suc, ◌+◌, ◌==◌, nat_lt, Bool, true, false, ◌&&◌, List, [], ◌∷◌, ◌++◌, length, map, slice_index, Option, Some, None, Result, Ok, Err, refl, sym, ap, ◌∙◌, arith, inl, subst, if◌then◌else◌}
+use Rattle.std.proofs.lemmas.Bool.{and_parts, eqb-true, eqb-false, ltb-true, ltb-false}
 use Rattle.std.proofs.lemmas.List.{append_assoc, append-nil, length-append}
 use Rattle.ep_base.specs.Cards.Activation.{bit}
 use Rattle.ep_base.specs.Cards.TypeA.{levels, level_bytes}
 use Rattle.inventory.specs.declared.listing.InventoryEnd.{InventoryEnd}
-use Rattle.inventory.specs.declared.listing.InventoryEnd.TheVariants.{Device, Odd, Many}
+use Rattle.inventory.specs.declared.listing.InventoryEnd.TheVariants.{Many}
 use Rattle.inventory.specs.declared.walk.Path.{Path}
-use Rattle.inventory.specs.Bits.{bits_of, known_bits, begins}
+use Rattle.inventory.specs.Bits.{bits_of, begins}
 use Rattle.inventory.specs.Steps.{BitSteps}
 use Rattle.inventory.specs.Tags.{Tag, IsTag, AreTags, AreApart, spelled, in_order}
 use Rattle.inventory.specs.Told.{Stood, Tells, tags_of, answered_sak, selects_one}
 use Rattle.inventory.specs.Turns.{Turns, TurnsBy, after_select}
-use Rattle.inventory.specs.Walks.{Walk, Turned, IsWalk, at, known_of, odd, uid_at, turned_back, tells_more, completed, after_sak, after_selected}
+use Rattle.inventory.specs.Walks.{Walk, Turned, IsWalk, at, known_of, uid_at, turned_back, tells_more, after_sak, after_selected}
 use Rattle.inventory.proofs.Beginnings.{begins_front, begins_whole}
-use Rattle.inventory.proofs.Finding.{Held, Waits, waiting, Partway, Finishes, wake_finds}
+use Rattle.inventory.proofs.Finding.{Waits, waiting, Partway, Finishes, wake_finds}
 use Rattle.inventory.proofs.Leading.{path_at}
 use Rattle.inventory.proofs.Members.{In, all_in, in_filter, filter_in, only}
 use Rattle.inventory.proofs.Ordering.{under}

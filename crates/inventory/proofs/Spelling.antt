@@ -1,8 +1,8 @@
 -- The bits of numbers and of bytes.
-use Rattle.std.proofs.Common.{◌≡◌, ℕ, zero, suc, ◌+◌, ◌*◌, ◌/◌, ◌%◌, ◌^◌, ◌-◌, ◌<◌, ◌≤◌, ◌==◌, Bool, true, false, List, [], ◌∷◌, ◌++◌, length, take, drop, get_or, replicate, refl, sym, ap, ◌∙◌, subst, add-one, arith, if◌then◌else◌}
+use Rattle.std.proofs.Common.{◌≡◌, ℕ, zero, suc, ◌+◌, ◌*◌, ◌/◌, ◌%◌, ◌^◌, ◌-◌, ◌<◌, ◌≤◌, ◌==◌, Bool, true, false, List, [], ◌∷◌, ◌++◌, length, take, drop, get_or, replicate, refl, sym, ap, ◌∙◌, subst, arith, if◌then◌else◌}
 use Rattle.std.specs.Int.{w32, from_le_bytes, to_le_bytes}
-use Rattle.std.proofs.lemmas.Nat.{pow_pos, mod-pow-add, shr-shr}
-use Rattle.std.proofs.Math.Nat.{mul_assoc, mod-lt}
+use Rattle.std.proofs.lemmas.Nat.{mod-pow-add, shr-shr}
+use Rattle.std.proofs.Math.Nat.{mul_assoc}
 use Rattle.std.proofs.Math.Pow.{pow_mono}
 use Rattle.std.proofs.Math.Seq.{drop-append_seam}
 use Rattle.std.proofs.lemmas.List.{length-append, length-take-le}

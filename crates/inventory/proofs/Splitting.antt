@@ -1,24 +1,23 @@
 -- An inventory that hears that values differ, over a field that tells lawful cards.
-use Rattle.std.proofs.Common.{◌≡◌, ℕ, zero, suc, ◌+◌, ◌<◌, ◌≤◌, ◌%◌, ◌/◌, nat_lt, nat_le, Bool, true, false, ◌&&◌, not, List, [], ◌∷◌, ◌++◌, length, map, take, Option, Some, None, Result, Ok, Err, refl, sym, ap, ◌∙◌, arith, ◌⊎◌, inl, inr, subst}
+use Rattle.std.proofs.Common.{◌≡◌, ℕ, zero, suc, ◌+◌, ◌<◌, ◌≤◌, ◌%◌, ◌/◌, nat_lt, nat_le, Bool, true, false, ◌&&◌, not, List, [], ◌∷◌, ◌++◌, length, map, take, Option, Some, None, refl, sym, ap, ◌∙◌, arith, ◌⊎◌, inl, inr, subst}
 use Rattle.std.specs.Int.{w32, to_le_bytes}
 use Rattle.std.proofs.lemmas.Bool.{lt-ltb, le-leb}
 use Rattle.std.proofs.lemmas.List.{append_assoc, length-append}
-use Rattle.inventory.specs.declared.field.Prefix.{Prefix}
 use Rattle.inventory.specs.declared.field.BitHeard.{BitHeard}
 use Rattle.inventory.specs.declared.field.BitHeard.TheVariants.{Silence, Level, Split}
 use Rattle.inventory.specs.Bits.{bits_of, known_bits, begins}
 use Rattle.inventory.specs.Prefixes.{number_with, with_bit}
 use Rattle.inventory.specs.Steps.{BitSteps}
-use Rattle.inventory.specs.Tags.{Tag, IsTag, spelled, in_order}
-use Rattle.inventory.specs.Told.{Stood, Tells, heard_values, agreed, HeardAs, IsHeard}
+use Rattle.inventory.specs.Tags.{Tag, spelled, in_order}
+use Rattle.inventory.specs.Told.{Stood, Tells, heard_values, agreed, IsHeard}
 use Rattle.inventory.specs.Turns.{after_ask, goes}
 use Rattle.inventory.specs.Walks.{Walk, with_at, known_of, odd, branched, after_heard}
 use Rattle.inventory.proofs.Beginnings.{begins_chain, begins_length}
-use Rattle.inventory.proofs.Finding.{Held, Waits, waiting, Partway, Finishes, Asks, asked, value_of, known_length, not_cascades, path_asked, read_asked, under_more, under_less, same_under, Heard, heard_common, finishes_if, level_finds}
+use Rattle.inventory.proofs.Finding.{Held, waiting, Partway, Finishes, Asks, asked, value_of, known_length, not_cascades, path_asked, read_asked, under_more, under_less, same_under, Heard, heard_common, finishes_if, level_finds}
 use Rattle.inventory.proofs.Members.{In, in_filter, longer_of, agreed_parts, Parts}
 use Rattle.inventory.proofs.Ordering.{under, in_two_parts}
 use Rattle.inventory.proofs.Paths.{path_bits, put}
-use Rattle.inventory.proofs.Reading.{IsValue, Value, value_length, prior, Reads}
+use Rattle.inventory.proofs.Reading.{IsValue, Value, value_length, prior}
 use Rattle.inventory.proofs.Spelling.{length_four, known_with_bit}
 use Rattle.inventory.proofs.Standing.{standing, heard_stand}
 

@@ -1,19 +1,19 @@
 -- The cards of a field where an inventory stands.
-use Rattle.std.proofs.Common.{◌≡◌, ℕ, zero, suc, ◌+◌, ◌<◌, ◌≤◌, ◌==◌, nat_lt, Bool, true, false, ◌&&◌, List, [], ◌∷◌, ◌++◌, length, map, slice_index, Option, Some, None, refl, sym, ap, ◌∙◌, arith, ◌⊎◌, inl, inr, subst, if◌then◌else◌}
+use Rattle.std.proofs.Common.{◌≡◌, ℕ, ◌+◌, ◌≤◌, ◌==◌, nat_lt, Bool, true, false, ◌&&◌, List, [], ◌∷◌, ◌++◌, length, map, slice_index, Option, Some, None, refl, sym, ap, ◌∙◌, arith, inl, inr, subst, if◌then◌else◌}
 use Rattle.std.specs.List.{filter}
 use Rattle.std.specs.Option.{option_or}
 use Rattle.std.specs.Str.{bytes_eq}
-use Rattle.std.proofs.lemmas.Bool.{and_parts, eq-eqb}
+use Rattle.std.proofs.lemmas.Bool.{eq-eqb}
 use Rattle.std.proofs.lemmas.Slice.Eq.{bytes_eq-Decides}
 use Rattle.ep_base.specs.Cards.TypeA.{levels, level_bytes}
 use Rattle.inventory.specs.declared.walk.Path.{Path}
 use Rattle.inventory.specs.Bits.{bits_of, begins}
 use Rattle.inventory.specs.Tags.{Tag, IsTag, spelled}
-use Rattle.inventory.specs.Told.{Place, Mute, At, Whole, Stood, tags_of, is_at, placed, muted, woken, is_some_there, value_at, hears, heard_values, is_selected, next_place, selects_one, sak_at, selected_sak, answered_sak}
+use Rattle.inventory.specs.Told.{Place, Mute, At, Stood, tags_of, is_at, placed, woken, is_some_there, value_at, hears, heard_values, is_selected, next_place, selects_one, answered_sak}
 use Rattle.inventory.proofs.Beginnings.{begins_self, begins_whole}
 use Rattle.inventory.proofs.Members.{In, same_truth}
 use Rattle.inventory.proofs.Ordering.{under, begins_less}
-use Rattle.inventory.proofs.Reading.{IsValue, value_length, value_same, Lower, prior, Reads, reads, hear_at, hear}
+use Rattle.inventory.proofs.Reading.{IsValue, value_length, value_same, Lower, prior, reads, hear_at, hear}
 use Rattle.inventory.proofs.Spelling.{length_four}
 
 -- A card that stands at a level where its bits begin so, and else is mute.

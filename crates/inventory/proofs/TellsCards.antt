@@ -1,7 +1,5 @@
 -- A clean field tells its cards.
-use Rattle.std.proofs.Common.{◌≡◌, ℕ, Bool, true, List, Option, Some, None, refl, sym, ap, ◌∙◌, subst}
-use Rattle.inventory.specs.declared.field.Prefix.{Prefix}
-use Rattle.inventory.specs.declared.field.BitHeard.{BitHeard}
+use Rattle.std.proofs.Common.{◌≡◌, List, Some, sym, subst}
 use Rattle.inventory.specs.Bits.{known_bits}
 use Rattle.inventory.specs.Told.{Stood, Tells, clean, IsHeard, heard_values}
 

@@ -1,5 +1,5 @@
 -- What an inventory heard, exchange by exchange, and what it comes to (ISO/IEC 14443-3; the refusals are this project's own).
-use Rattle.std.specs.Prelude.{◌≡◌, ℕ, ◌≤◌, ◌==◌, nat_lt, nat_le, Bool, true, false, not, ◌&&◌, ◌||◌, ◌⊎◌, List, [], ◌∷◌, ◌++◌, length, take, drop, slice_index, Option, Some, None, Result, Ok, Err, if◌then◌else◌}
+use Rattle.std.specs.Prelude.{◌≡◌, ℕ, ◌≤◌, ◌==◌, nat_lt, Bool, true, false, not, ◌&&◌, ◌||◌, ◌⊎◌, List, [], ◌∷◌, ◌++◌, length, take, drop, slice_index, Option, Some, None, Result, Ok, Err, if◌then◌else◌}
 use Rattle.ep_base.specs.Cards.Activation.{bit}
 use Rattle.ep_base.specs.Cards.TypeA.{is_level}
 use Rattle.inventory.specs.declared.field.Prefix.{Prefix}

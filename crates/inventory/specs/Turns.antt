@@ -2,7 +2,7 @@
 use Rattle.std.specs.Prelude.{◌≡◌, ℕ, ◌+◌, ◌*◌, ◌-◌, nat_lt, Bool, true, false, List, length, Option, Some, None, Result, Ok, Err}
 use Rattle.inventory.specs.declared.field.BitHeard.{BitHeard}
 use Rattle.inventory.specs.declared.listing.InventoryEnd.{InventoryEnd}
-use Rattle.inventory.specs.declared.listing.InventoryEnd.TheVariants.{Device, Odd, Many}
+use Rattle.inventory.specs.declared.listing.InventoryEnd.TheVariants.{Device, Odd}
 use Rattle.inventory.specs.Steps.{BitSteps}
 use Rattle.inventory.specs.Tags.{Tag}
 use Rattle.inventory.specs.Walks.{Walk, Turned, nothing, known_of, after_heard, after_selected}

@@ -1,7 +1,7 @@
 -- What the fields of a walk mean (this project's own).
-use Rattle.std.specs.Prelude.{◌≡◌, ◌≤◌, reverse}
+use Rattle.std.specs.Prelude.{◌≤◌, reverse}
 use Rattle.inventory.specs.declared.walk.Walk.TheInside.{Inside}
-use Rattle.inventory.specs.Walks.{Walk, known_of}
+use Rattle.inventory.specs.Walks.{Walk}
 
 -- The walk from its fields.
 abbrev pub walk_of : Inside → Walk

@@ -1,6 +1,6 @@
-use Rattle.std.proofs.Common.{◌≡◌, ◌+◌, ◌<◌, ◌≤◌, get_or, take, length, false, sym, ap, ◌∙◌, add-one, rules, arith}
+use Rattle.std.proofs.Common.{◌≡◌, get_or, length, false, sym, add-one, arith}
 use Rattle.std.proofs.lemmas.Grind.{common_steps}
-use Rattle.inventory.specs.Bits.{bits_of, shared}
+use Rattle.inventory.specs.Bits.{bits_of}
 use Rattle.inventory.proofs.Sharing.{shared_at, shared_all, alike_next}
 use Rattle.inventory.proofs.Spelling.{length_four}
 use Rattle.inventory.proofs.bits.agreement.Goals as goal

@@ -1,4 +1,4 @@
-use Rattle.std.proofs.Common.{◌≡◌, ◌==◌, length, take, sym, ap, ◌∙◌, arith}
+use Rattle.std.proofs.Common.{◌≡◌, length, take, sym, ap, ◌∙◌, arith}
 use Rattle.std.proofs.lemmas.List.{length-take-le}
 use Rattle.inventory.specs.Bits.{bits_of, known_bits, shared}
 use Rattle.inventory.proofs.Sharing.{begins_by_length, length_by_begins, test_is}

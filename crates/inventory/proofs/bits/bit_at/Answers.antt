@@ -1,6 +1,4 @@
 use Rattle.inventory.proofs.Spelling.{bit_of_four}
-use Rattle.std.proofs.Common.{subst, sym, ◌≡◌, ◌/◌, ◌%◌, ◌^◌, ◌==◌, get_or, false}
-use Rattle.inventory.specs.Bits.{bits_of}
 use Rattle.inventory.proofs.bits.bit_at.Goals as goal
 
 pub returns : goal.returns

@@ -1,4 +1,4 @@
-use Rattle.std.proofs.Common.{◌≡◌, ◌+◌, ◌*◌, ◌%◌, ◌^◌, ◌<◌, refl, ap, sym, ◌∙◌, arith, rules}
+use Rattle.std.proofs.Common.{◌≡◌, ◌*◌, ◌%◌, ◌^◌, ◌<◌, refl, arith}
 use Rattle.std.proofs.Math.Pow.{pow-lt}
 use Rattle.inventory.specs.Prefixes.{number_with}
 use Rattle.inventory.proofs.Spelling.{number_with_is}

@@ -1,4 +1,4 @@
-use Rattle.std.proofs.Common.{subst, rules}
+use Rattle.std.proofs.Common.{subst}
 use Rattle.inventory.specs.Hearing.{AgreeAs}
 use Rattle.inventory.proofs.Agreeing.{agree_first, agree_more}
 use Rattle.inventory.proofs.clean.agreed_with.Goals as goal

@@ -1,4 +1,4 @@
-use Rattle.std.proofs.Common.{subst, sym, List, ℕ, Option, Some, ◌≡◌, ◌++◌, []}
+use Rattle.std.proofs.Common.{subst, sym, List, ℕ, Option, Some, ◌++◌}
 use Rattle.std.proofs.lemmas.List.{append-nil}
 use Rattle.inventory.specs.Hearing.{AgreeAs, listed}
 use Rattle.inventory.proofs.clean.heard_next.Goals as goal

@@ -1,4 +1,4 @@
-use Rattle.std.proofs.Common.{subst, rules}
+use Rattle.std.proofs.Common.{subst}
 use Rattle.inventory.specs.Hearing.{AgreeAs}
 use Rattle.inventory.proofs.Agreeing.{heard_level, heard_split}
 use Rattle.inventory.proofs.clean.heard_of.Goals as goal

@@ -1,12 +1,12 @@
-use Rattle.std.proofs.Common.{◌≡◌, ◌≤◌, ◌<◌, ◌+◌, ◌-◌, ◌^◌, length, List, ℕ, Bool, true, false, Ok, Err, inl, inr, Option, Some, subst, sym, ap, ◌∙◌, arith, rules}
-use Rattle.inventory.specs.Turns.{spent, left}
-use Rattle.inventory.specs.Walks.{Walk, Turned, IsWalk, IsClearEnd, turned, begun}
-use Rattle.inventory.proofs.Leading.{leads, Leads, LeadsBy, GoesOn, begun_stands}
+use Rattle.std.proofs.Common.{◌≡◌, ◌≤◌, ◌+◌, length, List, Bool, Ok, Err, inr, Some, subst, sym, arith}
+use Rattle.inventory.specs.Turns.{spent}
+use Rattle.inventory.specs.Walks.{Walk, Turned, IsWalk}
+use Rattle.inventory.proofs.Leading.{leads, LeadsBy, GoesOn, begun_stands}
 use Rattle.inventory.proofs.Places.{spent_most}
 use Rattle.inventory.proofs.Ending.{empty_list, begun_finds, none_finds, device_finds, refused_finds, over_finds, begun_makes, none_makes, failed_makes, few_listed}
 use Rattle.inventory.proofs.Making.{Sofar, OnwardBy, turn_makes}
 use Rattle.inventory.proofs.Finding.{Partway, FinishesBy}
-use Rattle.inventory.specs.Exchanges.{ComesTo, Comes}
+use Rattle.inventory.specs.Exchanges.{ComesTo}
 use Rattle.inventory.specs.Finds.{Finds}
 use Rattle.inventory.specs.Tags.{Tag}
 use Rattle.inventory.specs.Told.{tags_of}

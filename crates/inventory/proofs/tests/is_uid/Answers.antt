@@ -1,4 +1,3 @@
-use Rattle.std.proofs.Common.{◌≡◌, arith}
 use Rattle.inventory.proofs.LawfulTags.{not_true, four_uid, seven_uid, ten_uid, all_bytes}
 use Rattle.inventory.proofs.tests.is_uid.Goals as goal
 

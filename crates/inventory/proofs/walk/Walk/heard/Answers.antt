@@ -1,4 +1,4 @@
-use Rattle.std.proofs.Common.{◌≡◌, ◌≤◌, ◌<◌, arith, ap, sym, ◌∙◌}
+use Rattle.std.proofs.Common.{◌≤◌, arith, ap, sym}
 use Rattle.inventory.specs.Walks.{Walk, known_of}
 use Rattle.inventory.proofs.Places.{room}
 use Rattle.inventory.proofs.walk.Walk.heard.Goals as goal
