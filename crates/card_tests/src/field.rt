@@ -202,3 +202,28 @@ fn a_card_of_each_type(rt: HostRuntime) -> Result<(), Fail> {
     assert_eq!(rt; (first.card, second.card), (2, 1));
     Ok(())
 }
+
+#[test]
+fn plans_of_type_a(rt: HostRuntime) -> Result<(), Fail> {
+    let cards = vec![in rt.alloc();
+        card_b(rt.alloc(), 1)?,
+        card_a(rt.alloc(), 2, b"\x01\x02\x03\x04")?,
+    ]?;
+    let field = Field::open(
+        rt.alloc(),
+        cards,
+        Vec::new(rt.alloc()),
+        Vec::new(rt.alloc()),
+        1,
+    )
+    .map_err(|_| "memory")?;
+    for none in [0, 1, 3, 255] {
+        assert!(rt; field.type_a(none).is_none());
+    }
+    let Some(plan) = field.type_a(2) else {
+        return Err("no plan".into());
+    };
+    assert_eq!(rt; plan.uid.as_slice(), b"\x01\x02\x03\x04".as_slice());
+    assert_eq!(rt; plan.sak, 0x20);
+    Ok(())
+}

@@ -8,7 +8,8 @@ ghost use Rattle.rf_frame.specs.Meaning.{maybe_heard, heard_into};
 ghost use Rattle.rf_field.specs.Airs.{aired_of};
 ghost use Rattle.rf_field.specs.Fields.{field_of, hears_by};
 ghost use Rattle.rf_field.specs.Meaning.{IsRun, way_of, fate_of, exchange_fates};
-ghost use Rattle.rf_field.specs.Plans.{PlanFits, placed_plan};
+ghost use Rattle.std.specs.Option.{option_map};
+ghost use Rattle.rf_field.specs.Plans.{PlanFits, placed_plan, type_a_plan};
 ghost use Rattle.rf_field.specs.Presences.{lists_of};
 
 use crate::aired::{Aired, Sound};
@@ -23,6 +24,7 @@ use card_image::CardLog;
 use ep_base::{Buf, FrameBuf, NoMemory, Wave};
 use rf_frame::{Burst, Heard, Medium, RfFailed};
 use std::alloc::Global;
+use type_a::APlan;
 
 /// The cards of a transaction in the field of a reader. A reset begins the next round, and each exchange takes the next
 /// fate; all frames pass after the last. The cards hear a frame one after another in the order of their numbers, which
@@ -100,6 +102,20 @@ impl Field {
         ensures value { result ≡ (field_of self.now).air.gone }
     {
         self.gone
+    }
+
+    /// The plan of the card with this number, counted from 1, as it was given to `open`. `None` exactly where there is no
+    /// card of that number or it isn't one of Type A.
+    pub fn type_a(&self, card: u8) -> Option<&APlan>
+        ensures plan { option_map (λ p. p.now) result ≡ type_a_plan card (field_of self.now).cards }
+    {
+        if card == 0 {
+            return None;
+        }
+        match self.cards.get(usize::from(card) - 1) {
+            None => None,
+            Some(placed) => placed.plan(),
+        }
     }
 
     // What is in the air after a frame on which a burst falls.

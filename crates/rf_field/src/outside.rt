@@ -2,11 +2,13 @@
 ghost use Rattle.std.specs.Prelude.{◌≡◌};
 ghost use Rattle.ep_base.specs.Cards.Field.{outside_after, outside_reply, outside_reset, outside_halted};
 ghost use Rattle.rf_frame.specs.Meaning.{reply_of};
+ghost use Rattle.std.specs.Option.{option_map};
 ghost use Rattle.rf_field.specs.Outsides.{outside_of};
+ghost use Rattle.rf_field.specs.Plans.{plan_outside};
 
 use ep_base::{FrameBuf, Wave};
 use rf_frame::{CardDoes, Sent};
-use type_a::ACard;
+use type_a::{ACard, APlan};
 use type_b::BCard;
 
 // A card of either type, outside the block protocol.
@@ -17,6 +19,16 @@ pub(crate) enum Outside {
 }
 
 impl Outside {
+    // The plan of a card of Type A.
+    pub(crate) fn plan(&self) -> Option<&APlan>
+        ensures { option_map (λ p. p.now) result ≡ plan_outside (outside_of self.now) }
+    {
+        match self {
+            Outside::A(card) => Some(card.plan()),
+            Outside::B(_) => None,
+        }
+    }
+
     // What the card does with a frame; what it sends is written. In the block protocol it passes on the frames of its own
     // wave.
     pub(crate) fn hear(&mut self, wave: Wave, frame: &FrameBuf, sent: &mut Sent) -> CardDoes

@@ -4,7 +4,8 @@ ghost use Rattle.std.specs.Prelude.{false};
 ghost use Rattle.ep_base.specs.Cards.Field.{hears_frame, by_link, one_hears, placed_reset};
 ghost use Rattle.ep_base.specs.Link.Wire.{takes_frame};
 ghost use Rattle.rf_frame.specs.Meaning.{answer_if};
-ghost use Rattle.rf_field.specs.Plans.{PlanFits, placed_plan};
+ghost use Rattle.std.specs.Option.{option_map};
+ghost use Rattle.rf_field.specs.Plans.{PlanFits, placed_plan, plan_outside};
 
 use crate::outside::Outside;
 use crate::party::Party;
@@ -13,7 +14,7 @@ use card_image::CardLog;
 use ep_base::{CardKind, FRAME_16, FrameBuf, Wave};
 use rf_frame::{CardDoes, Sent};
 use std::marker::Model;
-use type_a::ACard;
+use type_a::{ACard, APlan};
 use type_b::BCard;
 
 // A card of the field: whether it is present, its side outside the block protocol, and its end of the link with its image.
@@ -51,6 +52,13 @@ impl Placed {
                 party: Party::open(CardKind::B, FRAME_16, image),
             },
         }
+    }
+
+    // The plan of a card of Type A.
+    pub(crate) fn plan(&self) -> Option<&APlan>
+        ensures { option_map (λ p. p.now) result ≡ plan_outside self.now.outside }
+    {
+        self.outside.plan()
     }
 
     // Whether a present card sends something after a frame. What it sends is written, and what it executes is listed in

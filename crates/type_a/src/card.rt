@@ -52,6 +52,13 @@ impl ACard {
         }
     }
 
+    /// What it is made of.
+    pub fn plan(&self) -> &APlan
+        ensures { result.now ≡ self.now.plan }
+    {
+        &self.plan
+    }
+
     /// The field was reset: the card is Idle.
     pub fn reset(&mut self)
         ensures plan { self.new.plan ≡ self.old.plan }

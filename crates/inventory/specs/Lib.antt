@@ -1,0 +1,13 @@
+pub mod Bits
+pub mod CardView
+pub mod Exchanges
+pub mod Finds
+pub mod Hearing
+pub mod Prefixes
+pub mod Steps
+pub mod Tags
+pub mod Text
+pub mod Told
+pub mod Turns
+pub mod Walks
+pub mod WalkView
