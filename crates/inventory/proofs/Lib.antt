@@ -3,7 +3,6 @@ pub mod Beginnings
 pub mod Ending
 pub mod Finding
 pub mod HexText
-pub mod LawfulTags
 pub mod Leading
 pub mod Making
 pub mod Members

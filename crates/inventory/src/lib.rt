@@ -18,6 +18,3 @@ pub use listing::{InventoryEnd, inventory};
 pub use rf_frame::RfFailed;
 pub use tag::Tag;
 pub use text::{inventory_line, tag_line};
-
-#[cfg(test)]
-mod tests;

@@ -4,9 +4,12 @@ ghost use Rattle.ep_base.specs.Cards.Lawful.{IsUid};
 ghost use Rattle.ep_base.specs.Streams.Causes.{HasCause};
 ghost use Rattle.inventory.specs.Tags.{IsTag, AreTags};
 
-use super::*;
 use arrayvec::ArrayVec;
-use ep_base::bit;
+use ep_base::{Buf, Line, bit};
+use inventory::{
+    BitField, BitHeard, CleanField, InventoryEnd, Prefix, Tag, inventory, inventory_line, tag_line,
+};
+use rf_frame::RfFailed;
 use std::alloc::Global;
 use std::test::Fail;
 

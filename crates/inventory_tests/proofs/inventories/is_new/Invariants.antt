@@ -1,6 +1,6 @@
 use Rattle.std.proofs.Common.{◌≢◌, take}
 use Rattle.std.specs.Prelude.{All}
-use Rattle.inventory.proofs.tests.is_new.Given as goal
+use Rattle.inventory_tests.proofs.inventories.is_new.Given as goal
 
 -- no card so far has it
 abbrev pub invariant-loop-card : goal.invariant-loop-card

@@ -5,8 +5,8 @@ use Rattle.std.proofs.lemmas.List.{take_all}
 use Rattle.std.proofs.lemmas.List.Elements.{All-append}
 use Rattle.std.proofs.lemmas.Slice.Eq.{bytes_eq-Decides}
 use Rattle.inventory.specs.Tags.{Tag}
-use Rattle.inventory.proofs.LawfulTags.{one_card}
-use Rattle.inventory.proofs.tests.is_new.Goals as goal
+use Rattle.inventory_tests.proofs.LawfulTags.{one_card}
+use Rattle.inventory_tests.proofs.inventories.is_new.Goals as goal
 
 pub loop-card-preserved : goal.loop-card-preserved
 loop-card-preserved c =

@@ -1,8 +1,8 @@
 use Rattle.std.proofs.Common.{◌≡◌, ◌≢◌, ◌∷◌, [], ◌++◌, List, ℕ, sym, ap, ◌∙◌, subst, rules}
 use Rattle.std.specs.Prelude.{All}
 use Rattle.inventory.specs.Tags.{Tag, IsTag, AreTags}
-use Rattle.inventory.proofs.LawfulTags.{tags_snoc}
-use Rattle.inventory.proofs.tests.tags.Goals as goal
+use Rattle.inventory_tests.proofs.LawfulTags.{tags_snoc}
+use Rattle.inventory_tests.proofs.inventories.tags.Goals as goal
 
 pub loop-uid-preserved : goal.loop-uid-preserved
 loop-uid-preserved c =

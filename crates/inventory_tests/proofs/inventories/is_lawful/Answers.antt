@@ -4,7 +4,7 @@ use Rattle.std.proofs.lemmas.Bool.{eqb-true}
 use Rattle.ep_base.specs.Cards.Activation.{bit}
 use Rattle.ep_base.specs.Cards.Lawful.{IsUid}
 use Rattle.inventory.specs.Tags.{Tag}
-use Rattle.inventory.proofs.tests.is_lawful.Goals as goal
+use Rattle.inventory_tests.proofs.inventories.is_lawful.Goals as goal
 
 pub returns-then-is_uid : goal.returns-then-is_uid
 returns-then-is_uid c = λ h.

@@ -1,5 +1,5 @@
-use Rattle.inventory.proofs.LawfulTags.{not_true, four_uid, seven_uid, ten_uid, all_bytes}
-use Rattle.inventory.proofs.tests.is_uid.Goals as goal
+use Rattle.inventory_tests.proofs.LawfulTags.{not_true, four_uid, seven_uid, ten_uid, all_bytes}
+use Rattle.inventory_tests.proofs.inventories.is_uid.Goals as goal
 
 pub returns-in-4 : goal.returns-in-4
 returns-in-4 c = λ h. (four_uid c.args.uid.now c.in-4.is (not_true _ h), all_bytes c.args.uid.now c.type_inv.uid)
