@@ -8,6 +8,3 @@ mod response;
 pub use command::{Command, PPSE_NAME};
 pub use fault::ApduFault;
 pub use response::{Response, SUCCESS};
-
-#[cfg(test)]
-mod tests;

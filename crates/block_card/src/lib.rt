@@ -10,6 +10,3 @@ mod rules;
 pub use apdu::{Command, Response};
 pub use ep_base::{CardKind, FrameBuf};
 pub use held::{CardEnd, CardNext, Step};
-
-#[cfg(test)]
-mod tests;

@@ -11,6 +11,3 @@ pub use ep_base::BlockFault;
 pub use laws::{read_is_spelled, spelled_is_read};
 pub use reading::decode;
 pub use writing::encode;
-
-#[cfg(test)]
-mod tests;

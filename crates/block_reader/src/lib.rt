@@ -17,6 +17,3 @@ mod turns;
 pub use ends::{Breach, Follows, Kept, LinkEnd, Next};
 pub use ep_base::Phase;
 pub use reader_end::ReaderEnd;
-
-#[cfg(test)]
-mod tests;

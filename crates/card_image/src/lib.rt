@@ -11,6 +11,3 @@ pub use apps::{App, Rule};
 pub use image::{Answered, CardImage};
 pub use laws::stays_within_limits;
 pub use log::{CardLog, Record};
-
-#[cfg(test)]
-mod tests;

@@ -29,6 +29,3 @@ pub use objects::{Node, TlvFault};
 pub use outcome::{Message, OutcomeKind};
 pub use standard::{StdSink, StdSource};
 pub use streams::{NoMemory, Pulled, ReadEnd, Sink, SinkFailed, Source, push_all, read_all};
-
-#[cfg(test)]
-mod tests;

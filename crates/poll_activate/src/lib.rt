@@ -8,6 +8,3 @@ mod reader;
 pub use polling::{PollEnd, Rounds, poll, round};
 pub use reader::Poll;
 pub use rf_frame::{Activated, Ask, Heard, Medium, RfFailed, RoundEnd, Wave};
-
-#[cfg(test)]
-mod tests;

@@ -79,6 +79,3 @@ pub fn entry_value(arena: &Arena, entry: u16, tag: u32) -> Option<&[u8]>
     let id = arena.find(entry, tag)?;
     arena.get(id)
 }
-
-#[cfg(test)]
-mod tests;

@@ -158,6 +158,3 @@ impl Drop for RawBlock {
         deallocate(&alloc, pointer, cap, cells, deed);
     }
 }
-
-#[cfg(test)]
-mod tests;

@@ -21,6 +21,3 @@ pub use frames::{copy_frame, good, open_frame, refill, seal};
 pub use laws::{damage_is_seen, hits_where_it_falls, missed_is_same, sealed_is_opened};
 pub use medium::{Medium, RfFailed, exchange, exchange_into};
 pub use messages::{answer_in, ask_message, put_ask, put_message, put_sent, sent_message};
-
-#[cfg(test)]
-mod tests;

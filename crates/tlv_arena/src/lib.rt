@@ -231,6 +231,3 @@ impl Arena {
         Some(self.store.live[i].place)
     }
 }
-
-#[cfg(test)]
-mod tests;

@@ -14,6 +14,3 @@ pub use ep_base::{Node, TlvFault};
 pub use laws::{one_reading, written_again};
 pub use walk::{Walk, read};
 pub use writer::{write_length, write_tag};
-
-#[cfg(test)]
-mod tests;

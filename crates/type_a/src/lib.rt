@@ -15,6 +15,3 @@ pub use reader::AReader;
 pub use rf_frame::{
     Activated, Ask, Buf, CardHear, CardKind, FrameBuf, Heard, RoundEnd, Sent, Wave,
 };
-
-#[cfg(test)]
-mod tests;

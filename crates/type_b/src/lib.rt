@@ -13,6 +13,3 @@ pub use reader::BReader;
 pub use rf_frame::{
     Activated, Ask, Buf, CardHear, CardKind, FrameBuf, Heard, RoundEnd, Sent, Wave,
 };
-
-#[cfg(test)]
-mod tests;
