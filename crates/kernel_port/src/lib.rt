@@ -16,8 +16,3 @@ pub use events::{Events, EventsFailed};
 pub use kernels::{KernelStep, Kernels};
 pub use outcome::Outcome;
 pub use scripts::{Script, Scripts, Step};
-
-#[cfg(test)]
-mod event_tests;
-#[cfg(test)]
-mod tests;

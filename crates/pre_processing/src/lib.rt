@@ -8,6 +8,3 @@ mod processing;
 pub use indicators::Indicators;
 pub use prepared::{Prepared, PreparedOne};
 pub use processing::prepare;
-
-#[cfg(test)]
-mod tests;

@@ -9,6 +9,3 @@ mod pair;
 
 pub use candidates::Candidates;
 pub use pair::Pair;
-
-#[cfg(test)]
-mod tests;

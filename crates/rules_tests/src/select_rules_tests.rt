@@ -5,12 +5,12 @@
 //! Combination says beside its type, a line with a colon is so many entries with these objects, each a tag and a value, and
 //! the line after `=` is what is found.
 
-use crate::Candidates;
 use acquirer_config::Config;
 use apdu::Response;
 use ep_base::{ARENA_BYTES, ARENA_SLOTS};
 use ppse::read_directory;
 use pre_processing::{Prepared, prepare};
+use select_rules::Candidates;
 use std::alloc::AllocGlobal;
 use std::process::Abort;
 use std::test::Fail;

@@ -1,8 +1,8 @@
 //! Takers of events through the trait's bound: one with a count of its own, and one that holds a reference.
 ghost use Rattle.std.specs.Prelude.{◌≡◌};
 
-use crate::{End, Event, EventList, Events, EventsFailed};
 use ep_base::Message;
+use kernel_port::{End, Event, EventList, Events, EventsFailed};
 use std::test::Fail;
 
 // A taker of some events, which refuses those after them.

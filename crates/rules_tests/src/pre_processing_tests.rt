@@ -5,8 +5,8 @@
 //! ones what a Combination says beside its name and kernel, and after `=>` what is found of it: whether it is allowed, a
 //! status check, a zero amount, the floor, the CVM, and the TTQ.
 
-use crate::{PreparedOne, prepare};
 use acquirer_config::Config;
+use pre_processing::{PreparedOne, prepare};
 use std::alloc::AllocGlobal;
 use std::process::Abort;
 use std::test::Fail;

@@ -2,11 +2,11 @@
 ghost use Rattle.std.specs.Prelude.{◌≡◌, false};
 ghost use Rattle.kernel_port.specs.Kernels.{is_send};
 
-use crate::{
-    Activation, KernelStep, Kernels, Message, Outcome, OutcomeKind, Script, Scripts, Step,
-};
 use apdu::{Command, Response};
 use ep_base::Buf;
+use kernel_port::{
+    Activation, KernelStep, Kernels, Message, Outcome, OutcomeKind, Script, Scripts, Step,
+};
 use pre_processing::Indicators;
 use std::test::Fail;
 
