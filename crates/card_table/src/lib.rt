@@ -14,6 +14,3 @@ pub use card_image::{App, Rule};
 pub use cards::cards_of;
 pub use plans::plans_of;
 pub use type_plan::TypePlan;
-
-#[cfg(test)]
-mod tests;

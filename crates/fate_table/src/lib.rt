@@ -10,6 +10,3 @@ mod tokens;
 pub use fates::fates_of;
 pub use laws::one_reading;
 pub use presence::presence_of;
-
-#[cfg(test)]
-mod tests;

@@ -4,6 +4,3 @@
 mod trace;
 
 pub use trace::trace_of;
-
-#[cfg(test)]
-mod tests;

@@ -6,7 +6,8 @@
 //! first of them with its own; and the number of the card in the field. Or it is the first fault.
 ghost use Rattle.std.specs.Prelude.{◌≤◌, length, IfOk};
 
-use crate::{Card, TypePlan, cards_of, plans_of};
+use crate::rows::{table, told_fault};
+use card_table::{Card, TypePlan, cards_of, plans_of};
 use doc_table::{Path, Section, TableEnd};
 use ep_base::CARDS;
 use rf_field::CardPlan;
@@ -27,8 +28,7 @@ fn cards_in(rt: &(impl Abort + AllocGlobal), text: &str) -> Result<Vec<Card>, Ta
 {
     let document = format!(in rt.alloc(); "cards = [{text}]").ok();
     let document = document.expect(rt, "memory");
-    let table = toml::table_from_str(rt.alloc(), document.as_str()).ok();
-    let table = table.expect(rt, text);
+    let table = table(rt, document.as_str());
     let path = Path::root();
     cards_of(rt.alloc(), &Section::unchecked(&path, &table))
 }
@@ -70,8 +70,7 @@ fn told_of(rt: &impl AllocGlobal, card: &Card) -> Result<String, Fail> {
 /// What is read of these cards, as in the table.
 fn told_in(rt: &(impl Abort + AllocGlobal), text: &str) -> Result<String, Fail> {
     if let Some(TableEnd::Fault(fault)) = cards_in(rt, text).err() {
-        let path = fault.path.as_str();
-        return Ok(format!(in rt.alloc(); "{:?} {path} {}", fault.kind, fault.number)?);
+        return told_fault(rt, &fault);
     }
     let cards = cards_in(rt, text).ok().expect(rt, text);
     let mut told = String::new(rt.alloc());
