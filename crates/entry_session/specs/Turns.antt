@@ -131,7 +131,7 @@ abbrev pub Answers : Turn → ℕ → Talk → Standing → Type 0
 Answers (turns.Ask ask) fsdi talk st = asked_by fsdi st.doing ≡ Some ask
 Answers (turns.Ended end) fsdi talk st = EndedBy end talk st
 
--- How the cause of an end shows: carried through, an outcome stands before the end; without a card, all 64 rounds of the last Start B have ended
+-- How the cause of an end shows: carried through, an outcome stands before the end; without a card, all `ROUNDS` rounds of the last Start B have ended
 -- and none found one; at a failed link, the reader's table gives the failure at the last exchange that is kept: the third bad one, or the breach
 -- (this project's profile).
 abbrev pub CauseShows : End → HeardData → Doing → (rounds : List RoundEnd) → (link : Option links.Held) → (events : List EventData) → Type 0

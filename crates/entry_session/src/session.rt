@@ -2,6 +2,7 @@
 ghost use Rattle.std.specs.Prelude.{◌≡◌, ℕ, ◌<◌, ◌≤◌, [], ◌++◌, length, true, false, IfOk};
 ghost use Rattle.arrayvec.specs.ArrayVec.{array_vec_len};
 ghost use Rattle.ep_base.specs.Objects.Arena.{opened_arena};
+ghost use Rattle.ep_base.specs.declared.limits.TheConstants.{ARENA_BYTES, ARENA_SLOTS, BETWEEN_TOGGLES, ROUNDS};
 ghost use Rattle.ep_rules.specs.EntryPoint.Transaction.{transaction};
 ghost use Rattle.ep_rules.specs.EntryPoint.Talk.{Talk};
 ghost use Rattle.ep_rules.specs.EntryPoint.TransportRun.{Runs};
@@ -21,7 +22,7 @@ use crate::ran::Ran;
 use crate::turn::Turn;
 use crate::whole::run_whole;
 use block_reader::Kept;
-use ep_base::{FrameBuf, NoMemory, Wave};
+use ep_base::{ARENA_BYTES, ARENA_SLOTS, FrameBuf, NoMemory, Wave};
 use kernel_port::{End, EventList, Events, Kernels};
 use link::Transport;
 use pre_processing::Prepared;
@@ -29,11 +30,6 @@ use rf_frame::{Ask, Heard, RoundEnd};
 use session_phases::{Onward, Presentation, begin};
 use std::alloc::Global;
 use tlv_arena::Arena;
-
-/// The bytes of a session's arena, and how many objects it can hold. No directory needs more.
-const ARENA_BYTES: usize = 1024;
-
-const ARENA_SLOTS: usize = 192;
 
 // What is asked by no one.
 fn nothing() -> Ask {
@@ -46,11 +42,12 @@ fn nothing() -> Ask {
 }
 
 impl<K: Kernels + Drop> Session<K> {
-    /// A session with an empty arena of 1,024 bytes and 192 slots, in which no transaction is open.
+    /// A session in which no transaction is open, with an empty arena of `ARENA_BYTES` bytes and `ARENA_SLOTS` slots. No
+    /// directory needs more.
     ///
     /// Errors: `NoMemory`.
     pub fn open(alloc: Global) -> Result<Session<K>, NoMemory>
-        ensures empty { IfOk result (λ s. s.presentation.arena.contents ≡ opened_arena 1024 192) }
+        ensures empty { IfOk result (λ s. s.presentation.arena.contents ≡ opened_arena ARENA_BYTES ARENA_SLOTS) }
         ensures closed { IfOk result (λ s. is_open (view_of K.state K.is_open K.is_fresh s) ≡ false) }
     {
         let arena = Arena::open(alloc, ARENA_BYTES, ARENA_SLOTS)?;
@@ -240,7 +237,7 @@ impl<K: Kernels + Drop> Session<K> {
     /// How the rounds of the last Start B ended, in order. They stay until the next transaction begins.
     pub fn rounds(&self) -> &[RoundEnd]
         ensures ends { ends_of result.now ≡ (view_of K.state K.is_open K.is_fresh self.now).rounds }
-        ensures most { length result.now ≤ 64 }
+        ensures most { length result.now ≤ ROUNDS }
     {
         self.presentation.rounds.as_slice()
     }
@@ -249,7 +246,7 @@ impl<K: Kernels + Drop> Session<K> {
     /// the next transaction begins.
     pub fn since_toggle(&self) -> &[Kept]
         ensures exchanges { result.now ≡ kept_of (view_of K.state K.is_open K.is_fresh self.now).link }
-        ensures most { length result.now ≤ 32 }
+        ensures most { length result.now ≤ BETWEEN_TOGGLES }
     {
         let link = &self.presentation.link;
         if link.was_opened {

@@ -10,7 +10,4 @@ mod responses;
 mod scripts;
 mod terms;
 
-pub use load::generate;
-
-#[cfg(test)]
-mod tests;
+pub use load::{generate, plan};

@@ -25,8 +25,10 @@ pub fn generate(alloc: Global, seed: u32, count: u16) -> Result<Scenario, NoMemo
     Scenario::open(alloc, plan(alloc, seed, count)?)
 }
 
-// The load as a document.
-pub(crate) fn plan(alloc: Global, seed: u32, count: u16) -> Result<Document, NoMemory>
+/// The load as a document, before its fields are opened. `generate` opens them, and asks for the count that a load has.
+///
+/// Errors: `NoMemory`.
+pub fn plan(alloc: Global, seed: u32, count: u16) -> Result<Document, NoMemory>
     ensures { IfOk result (λ d. d ≡ generated seed count) }
 {
     Ok(Document {

@@ -14,6 +14,3 @@ mod words;
 pub use fault::document_fault;
 pub use line::line_of;
 pub use record::log_line;
-
-#[cfg(test)]
-mod tests;

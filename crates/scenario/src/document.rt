@@ -9,7 +9,7 @@ use crate::transaction::{Transaction, TransactionTable};
 use crate::turns::turns_of;
 use acquirer_config::Config;
 use doc_table::{ListOf, Path, Read, Section, TableEnd};
-use ep_base::{LANES, TRANSACTIONS};
+use ep_base::{FSDI, LANES, TRANSACTIONS};
 use std::alloc::Global;
 use std::marker::Model;
 use toml::{Table, Value};
@@ -105,7 +105,7 @@ fn plan_at(alloc: Global, root: &Section) -> Result<Document, TableEnd>
     ensures { GivesIfRoom (λ d. d) result (plan_at (place root.now)) }
 {
     let _version = root.required_integer("version", 1, 1)?;
-    let fsdi = root.integer_or("fsdi", 8, 0, 8)?;
+    let fsdi = root.integer_or("fsdi", FSDI as u64, 0, FSDI as u64)?;
     let config = Config::of_table(alloc, root.table())?;
     let lanes = lanes_of(alloc, root)?;
     let turns = turns_of(alloc, root, lanes.len())?;

@@ -1,5 +1,5 @@
 -- How the cause of an end shows.
-use Rattle.std.proofs.Common.{◌≡◌, ℕ, suc, ◌+◌, ◌∷◌, ◌++◌, Bool, true, false, List, [], length, map, Option, Some, refl, ap, sym, subst, ◌∙◌, arith, append_assoc}
+use Rattle.std.proofs.Common.{◌≡◌, ℕ, suc, ◌+◌, ◌-◌, ◌∷◌, ◌++◌, Bool, true, false, List, [], length, map, Option, Some, refl, ap, sym, subst, ◌∙◌, arith, append_assoc}
 use Rattle.std.specs.Prelude.{All, cond, reverse, nat_le, ◌&&◌}
 use Rattle.std.proofs.lemmas.List.{map-append, reverse-append, reverse-reverse, length-append}
 use Rattle.std.proofs.lemmas.List.Elements.{All-append, All-cons, All-nil}
@@ -7,6 +7,7 @@ use Rattle.block_reader.specs.Stands.{Held, Says, KeepsLast, is_spent}
 use Rattle.block_reader.specs.declared.ends.Next.TheVariants as nexts
 use Rattle.block_reader.specs.declared.ends.LinkEnd.{LinkEnd}
 use Rattle.block_reader.specs.declared.ends.LinkEnd.TheVariants as failures
+use Rattle.ep_base.specs.declared.limits.TheConstants.{ROUNDS}
 use Rattle.ep_base.specs.Link.Block.{ReadBlock, is_bad, count}
 use Rattle.ep_base.specs.Link.Carry.{turn_on}
 use Rattle.ep_base.specs.declared.outcome.OutcomeKind.{OutcomeKind}
@@ -133,10 +134,10 @@ polls_done (plain.Ask ask step) left h = tt
 polls_done (plain.Ended end) left h = absurd h
 
 -- The rounds of a new Start B fit.
-pub polls_fit : (o : plain.Onward) (ends : List RoundEnd) → ends ≡ [] → PollsThen o 63 → FitsThen o ends
+pub polls_fit : (o : plain.Onward) (ends : List RoundEnd) → ends ≡ [] → PollsThen o (ROUNDS - 1) → FitsThen o ends
 polls_fit (plain.Ask ask (plain.Polling round)) ends none h =
     let empty : length ends ≡ 0 = ap (λ (es : List RoundEnd). length es) none in
-    let all : round.left ≡ 63 = h in
+    let all : round.left ≡ ROUNDS - 1 = h in
     record { count = omega (arith, empty, all); none = subst (λ (es : List RoundEnd). All FindsNone es) (sym none) (All-nil FindsNone) }
 polls_fit (plain.Ask ask (plain.Waiting wish)) ends none h = tt
 polls_fit (plain.Ended end) ends none h = absurd h
@@ -165,7 +166,7 @@ some_then (plain.Ended ending.NoCard) e h = let never : 1 ≡ 0 = h 1 in absurd 
 some_then (plain.Ended ending.Breach) e h = absurd (h 0)
 
 -- After one more round the rounds fit.
-pub one_more_fits : (o : plain.Onward) (old new : List RoundEnd) (e : RoundEnd) (left : ℕ) → new ≡ old ++ e ∷ [] → length old + left ≡ 63 → All FindsNone old
+pub one_more_fits : (o : plain.Onward) (old new : List RoundEnd) (e : RoundEnd) (left : ℕ) → new ≡ old ++ e ∷ [] → length old + left ≡ ROUNDS - 1 → All FindsNone old
     → LeftThen o left → NoneThen o e → FitsThen o new
 one_more_fits o old new e left is room none before found =
     subst (λ (es : List RoundEnd). FitsThen o es) (sym is) (fits o before found)

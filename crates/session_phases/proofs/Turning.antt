@@ -1,5 +1,6 @@
 -- What is asked over a link, and where a transaction stands then.
-use Rattle.std.proofs.Common.{◌≡◌, ℕ, zero, suc, ◌<◌, ◌≤◌, Bool, true, false, List, [], ◌∷◌, ◌++◌, length, Option, Some, None, refl, ap, sym, subst, ◌∙◌, arith, append_assoc, append-nil}
+use Rattle.std.proofs.Common.{◌≡◌, ℕ, zero, suc, ◌-◌, ◌<◌, ◌≤◌, Bool, true, false, List, [], ◌∷◌, ◌++◌, length, Option, Some, None, refl, ap, sym, subst, ◌∙◌, arith, append_assoc, append-nil}
+use Rattle.ep_base.specs.declared.limits.TheConstants.{ROUNDS}
 use Rattle.ep_base.specs.declared.outcome.Message.TheVariants.{OneCardOnly}
 use Rattle.ep_base.specs.Cards.Apdu.{select, ppse_name}
 use Rattle.ep_base.specs.Objects.Arena.{Object}
@@ -155,7 +156,7 @@ module _ {S : Type 0} (k : KernelSteps S) (ones : List PreparedOne) (s : S) wher
   after_ppse n r = Say (Candidates (length (candidates ones (directory r)))) (selects k (next_start k ones n) (candidates ones (directory r)) s)
 
   -- A Start B is its first round.
-  pub starting : (n : ℕ) → starts k ones n s ≡ polls 63 false (presented k (next_start k ones n) ones s)
+  pub starting : (n : ℕ) → starts k ones n s ≡ polls (ROUNDS - 1) false (presented k (next_start k ones n) ones s)
   unfolding start_b talks.rounds
   starting zero = refl
   starting (suc n) = refl
@@ -307,7 +308,7 @@ module _ {S : Type 0} (k : KernelSteps S) (ones : List PreparedOne) (s : S) wher
   module _ (before after : List Object) (fsdi : ℕ) (old new : Option Held) (o : plain.Onward) (talk : Talk) (st : Standing) (heard : Heard) where
     -- A new Start B follows.
     pub starts_again : (said : List EventData) → WishStands k ones s before old (plain.Close true) talk st said
-        → ((next : List ℕ → Talk) → Comes talk (st.results ++ Closed ∷ []) said (polls 63 false (presents next))
+        → ((next : List ℕ → Talk) → Comes talk (st.results ++ Closed ∷ []) said (polls (ROUNDS - 1) false (presents next))
         → RoundTurned fsdi new o talk (standing talk (st.results ++ Closed ∷ []) None) said next)
         → Turned k ones s after fsdi new o talk (after_hearing fsdi talk heard st) said
     starts_again said h turned =
@@ -319,7 +320,7 @@ module _ {S : Type 0} (k : KernelSteps S) (ones : List PreparedOne) (s : S) wher
         more (suc n) lt is =
             let closed : Comes talk (st.results ++ Closed ∷ []) said (starts k ones n s) = hears_close talk st.results said (starts k ones n s) (same_rest talk st.results said h.goes.0.rest (Close (starts k ones n s)) is h.goes.0.comes) in
             rolled k ones s after fsdi new o talk (standing talk (st.results ++ Closed ∷ []) None) said n (omega (arith, lt))
-            (turned (after_ppse k ones s n) (same_rest talk (st.results ++ Closed ∷ []) said (starts k ones n s) (polls 63 false (presented k (next_start k ones n) ones s)) (starting k ones s n) closed))
+            (turned (after_ppse k ones s n) (same_rest talk (st.results ++ Closed ∷ []) said (starts k ones n s) (polls (ROUNDS - 1) false (presented k (next_start k ones n) ones s)) (starting k ones s n) closed))
 
     -- The end follows.
     pub ends_here : (said told : List EventData) → WishStands k ones s before old (plain.Close false) talk st said → o ≡ plain.Ended ending.Done

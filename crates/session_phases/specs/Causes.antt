@@ -3,6 +3,7 @@ use Rattle.std.specs.Prelude.{◌≡◌, ℕ, true, List, [], ◌∷◌, ◌++�
 use Rattle.block_reader.specs.Stands.{Held}
 use Rattle.ep_base.specs.Link.Block.{ReadBlock, is_bad, count}
 use Rattle.ep_base.specs.Link.Carry.{turn_on}
+use Rattle.ep_base.specs.declared.limits.TheConstants.{ROUNDS}
 use Rattle.ep_base.specs.declared.outcome.OutcomeKind.{OutcomeKind}
 use Rattle.ep_base.specs.Air.Heard.{Heard, RoundEnd, Empty, Collision, Unsupported, Broken, Found}
 use Rattle.ep_base.specs.Link.LinkEvents.{exchange_of}
@@ -23,9 +24,9 @@ FindsNone Unsupported = Unit {0}
 FindsNone Broken = Unit {0}
 FindsNone (Found card) = ⊥
 
--- All 64 rounds of a Start B have ended, and none found a card (this project's profile).
+-- All `ROUNDS` rounds of a Start B have ended, and none found a card (this project's profile).
 pub record IsNoCard (ends : List RoundEnd) : Type 0 where
-  pub all : length ends ≡ 64
+  pub all : length ends ≡ ROUNDS
   pub none : All FindsNone ends
 
 -- What the reader made of an exchange that is kept (ISO/IEC 14443-4).

@@ -1,11 +1,12 @@
 -- What is shown of a transaction's last Start B and of its last link.
-use Rattle.std.specs.Prelude.{◌≡◌, ℕ, ◌+◌, Bool, true, false, All, List, [], ◌∷◌, ◌++◌, length, Option, Some, None, if◌then◌else◌}
+use Rattle.std.specs.Prelude.{◌≡◌, ℕ, ◌+◌, ◌-◌, Bool, true, false, All, List, [], ◌∷◌, ◌++◌, length, Option, Some, None, if◌then◌else◌}
 use Rattle.ep_base.specs.Link.Carry.{turn_on}
 use Rattle.ep_base.specs.Air.Heard.{Heard, RoundEnd, Empty, Collision, Unsupported, Broken, Found, RoundTurn, Goes, Ends}
 use Rattle.ep_base.specs.Link.LinkEvents.{kept_after, exchange_of}
 use Rattle.ep_base.specs.Link.LinkFrames.{Kept}
 use Rattle.ep_base.specs.Poll.Round.{Stage, round_hears}
 use Rattle.ep_base.specs.Poll.Radio.{OpenLink}
+use Rattle.ep_base.specs.declared.limits.TheConstants.{ROUNDS}
 use Rattle.ep_rules.specs.EntryPoint.Talk.{Result, Round, Response, Closed}
 use Rattle.block_reader.specs.Stands.{Held}
 use Rattle.ep_claim.specs.Lanes.Standing.{Doing, Rounds, Carries, Closing, Stopped, Astray, Standing}
@@ -51,9 +52,9 @@ ends_at Astray r = r.ends
 abbrev pub rounds_of : Standing → List RoundEnd
 rounds_of st = ends_at st.doing (rounded st.results)
 
--- As many rounds may still come after this one as were not made, of 64, and none of those that ended found a card (this project's profile).
+-- As many rounds may still come after this one as were not made, of `ROUNDS`, and none of those that ended found a card (this project's profile).
 pub record FitsRound (ends : List RoundEnd) (left : ℕ) : Type 0 where
-  pub count : length ends + left ≡ 63
+  pub count : length ends + left ≡ ROUNDS - 1
   pub none : All FindsNone ends
 
 -- Where a round is made, the rounds fit (this project's profile).

@@ -1,8 +1,9 @@
 //! How a Start B begins, and how a transaction ends by the rules of Entry Point.
-ghost use Rattle.std.specs.Prelude.{◌≡◌, ℕ, ◌<◌, Bool, List, [], ◌++◌, true, false, Option};
+ghost use Rattle.std.specs.Prelude.{◌≡◌, ℕ, ◌-◌, ◌<◌, Bool, List, [], ◌++◌, true, false, Option};
 ghost use Rattle.arrayvec.specs.ArrayVec.{array_vec_len};
 ghost use Rattle.block_reader.specs.Stands.{Held};
 ghost use Rattle.ep_base.specs.Poll.Radio.{OpenLink};
+ghost use Rattle.ep_base.specs.declared.limits.TheConstants.{ROUNDS};
 ghost use Rattle.ep_rules.specs.EntryPoint.Event.{Event as EventData, Ending, End as EndSaid};
 ghost use Rattle.ep_rules.specs.EntryPoint.Talk.{Talk, Result, Over};
 ghost use Rattle.ep_claim.specs.Lanes.Standing.{standing};
@@ -18,22 +19,23 @@ ghost use Rattle.session_phases.specs.Told.{Comes, told_by};
 use crate::events::note;
 use crate::polling::open_round;
 use crate::steps::{Onward, Round};
+use ep_base::ROUNDS;
 use kernel_port::{End, Event, EventList};
 use poll_activate::Rounds;
 use rf_frame::Ask;
 
 /// The rounds of a Start B that may follow its first one.
-const MORE_ROUNDS: u8 = 63;
+const MORE_ROUNDS: u8 = ROUNDS as u8 - 1;
 
 /// A Start B begins, in which no round has ended.
 pub(crate) fn start_b(fsdi: u8, rounds: &mut Rounds, round: &mut Round, ask: &mut Ask) -> Onward
     requires { fsdi < 16 }
     ensures turned { (talk : Talk) (results : List Result) (said : List EventData) (next : List ℕ → Talk) (link : Option OpenLink) (end : Option Held) (selection : Selection)
-        → Comes talk results said (polls 63 false (presents next))
+        → Comes talk results said (polls (ROUNDS - 1) false (presents next))
         → RoundTurned fsdi end (onward_of result ask.new round.new selection) talk (standing talk results link) said next }
     ensures goes_on { (is_open is_fresh : Bool) (end : Option Held) (selection : Selection) → goes_on is_open is_fresh end (onward_of result ask.new round.new selection) ≡ true }
     ensures rounds { rounds.new.items ≡ [] }
-    ensures left { (selection : Selection) → PollsThen (onward_of result ask.new round.new selection) 63 }
+    ensures left { (selection : Selection) → PollsThen (onward_of result ask.new round.new selection) (ROUNDS - 1) }
 {
     rounds.clear();
     open_round(fsdi, MORE_ROUNDS, false, round, ask)

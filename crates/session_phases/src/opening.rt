@@ -1,6 +1,7 @@
 //! The begin of a transaction, up to its first exchange or its end.
 ghost use Rattle.std.specs.Prelude.{◌≡◌, ℕ, ◌+◌, ◌<◌, ◌≤◌, List, [], ◌++◌, true, length, None, if◌then◌else◌};
 ghost use Rattle.arrayvec.specs.ArrayVec.{array_vec_len};
+ghost use Rattle.ep_base.specs.declared.limits.TheConstants.{TYPE_COMBINATIONS};
 ghost use Rattle.ep_rules.specs.EntryPoint.Transaction.{say_ready, transaction};
 ghost use Rattle.ep_rules.specs.EntryPoint.Event.{Event as EventData, Finished};
 ghost use Rattle.ep_rules.specs.EntryPoint.Talk.{Talk, Result, Over};
@@ -21,7 +22,7 @@ use rf_frame::Ask;
 
 /// Notes what Pre-Processing found of each Combination.
 fn note_list(ones: &[PreparedOne], events: &mut EventList)
-    requires few { length ones.now ≤ 16 }
+    requires few { length ones.now ≤ TYPE_COMBINATIONS }
     requires events { array_vec_len events.old + length ones.now ≤ 24 }
     ensures goes { (talk : Talk) (results : List Result) (before : List EventData) (next : Talk)
         → Comes talk results (before ++ told_by events.old.items) (say_ready 1 ones.now next)
@@ -43,12 +44,12 @@ fn note_list(ones: &[PreparedOne], events: &mut EventList)
 
 /// Notes all up to the first Start B, or up to the end where there is none, and says whether there is one.
 pub fn open(prepared: &Prepared, events: &mut EventList) -> bool
-    requires { array_vec_len events.old + 19 ≤ 24 }
+    requires { array_vec_len events.old + TYPE_COMBINATIONS + 3 ≤ 24 }
     ensures goes { (talk : Talk) (results : List Result) (before : List EventData) (next : Talk)
         → Comes talk results (before ++ told_by events.old.items) (opens prepared.now.txn_type prepared.now.amount prepared.now.list next)
         → Comes talk results (before ++ told_by events.new.items) (if result then next else Over Finished) }
     ensures decided { OpenDecided result (told_by events.new.items) }
-    ensures count { array_vec_len events.new ≤ array_vec_len events.old + 19 }
+    ensures count { array_vec_len events.new ≤ array_vec_len events.old + TYPE_COMBINATIONS + 3 }
 {
     let start = Event::Start {
         txn_type: prepared.txn_type(),

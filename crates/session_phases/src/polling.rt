@@ -1,9 +1,10 @@
 //! A Start B, a round at a time.
-ghost use Rattle.std.specs.Prelude.{◌≡◌, ℕ, ◌+◌, ◌<◌, ◌≤◌, All, Bool, List, [], ◌∷◌, ◌++◌, true, Option, Some, IsSome, option_map};
+ghost use Rattle.std.specs.Prelude.{◌≡◌, ℕ, ◌+◌, ◌-◌, ◌<◌, ◌≤◌, All, Bool, List, [], ◌∷◌, ◌++◌, true, Option, Some, IsSome, option_map};
 ghost use Rattle.arrayvec.specs.ArrayVec.{array_vec_len};
 ghost use Rattle.block_reader.specs.Stands.{Held};
 ghost use Rattle.ep_base.specs.Cards.Apdu.{select, ppse_name};
 ghost use Rattle.ep_base.specs.Cards.CardLimits.{AreLimits, EndsInLimits};
+ghost use Rattle.ep_base.specs.declared.limits.TheConstants.{ROUNDS};
 ghost use Rattle.ep_base.specs.declared.outcome.Message.TheVariants.{OneCardOnly};
 ghost use Rattle.ep_base.specs.Poll.Radio.{OpenLink, link_to};
 ghost use Rattle.ep_base.specs.Poll.Round.{Stage, round_hears};
@@ -194,9 +195,9 @@ pub(crate) fn hear_round(
         → RoundTurned fsdi (link_held presentation.new.link) (onward_of result ask.new presentation.new.round presentation.new.selection) talk (after_stage fsdi talk results (round_hears stage (heard_of heard.now))) (before ++ told_by events.new.items) next }
     ensures goes_on { (is_open is_fresh : Bool) → goes_on is_open is_fresh (link_held presentation.new.link) (onward_of result ask.new presentation.new.round presentation.new.selection) ≡ true }
     ensures arena { presentation.new.arena ≡ presentation.old.arena }
-    ensures rounds { (stage : Stage) → presentation.old.round.poll.stage ≡ Some stage → array_vec_len presentation.old.rounds + presentation.old.round.left ≡ 63
+    ensures rounds { (stage : Stage) → presentation.old.round.poll.stage ≡ Some stage → array_vec_len presentation.old.rounds + presentation.old.round.left ≡ ROUNDS - 1
         → ends_of presentation.new.rounds.items ≡ ends_after (round_hears stage (heard_of heard.now)) (ends_of presentation.old.rounds.items) }
-    ensures fits { array_vec_len presentation.old.rounds + presentation.old.round.left ≡ 63 → All FindsNone (ends_of presentation.old.rounds.items)
+    ensures fits { array_vec_len presentation.old.rounds + presentation.old.round.left ≡ ROUNDS - 1 → All FindsNone (ends_of presentation.old.rounds.items)
         → FitsThen (onward_of result ask.new presentation.new.round presentation.new.selection) (ends_of presentation.new.rounds.items) }
     ensures no_failure { NoFailureThen (onward_of result ask.new presentation.new.round presentation.new.selection) }
     ensures kept { (stage : Stage) → presentation.old.round.poll.stage ≡ Some stage

@@ -16,6 +16,3 @@ pub use mismatch::{Mismatch, mismatch_text};
 pub use pieces::{push_hex, push_number};
 pub use reading::read_trace_line;
 pub use replay::Replay;
-
-#[cfg(test)]
-mod tests;

@@ -1,4 +1,5 @@
-use Rattle.std.proofs.Common.{◌≡◌, Bool, true, false, List, [], ◌∷◌, ◌++◌, Some, None, refl, ap, sym, subst, ◌∙◌}
+use Rattle.std.proofs.Common.{◌≡◌, ◌-◌, Bool, true, false, List, [], ◌∷◌, ◌++◌, Some, None, refl, ap, sym, subst, ◌∙◌}
+use Rattle.ep_base.specs.declared.limits.TheConstants.{ROUNDS}
 use Rattle.ep_rules.specs.EntryPoint.Event.{Finished}
 use Rattle.ep_rules.specs.EntryPoint.Talk.{Closed}
 use Rattle.ep_base.specs.Link.Carry.{turn_on}
@@ -146,7 +147,7 @@ returns-in-Close-true-clause-rounds g c = λ talk st before h same.
     (λ next comes. c.start_b.ensures.turned talk (st.results ++ Closed ∷ []) (before ++ told_by c.args.events.now.items) next None link c.args.presentation.now.selection comes) in
     subst (λ (t : Standing). ends_of c.start_b.new.rounds.items ≡ rounds_of t) (sym now)
     (ap (λ (es : List RoundEnd). ends_of es) c.start_b.ensures.rounds
-    ∙ sym (again_ends K.steps ones (K.state c.args.kernels.now) objects c.args.fsdi link (onward_of c.start_b.result c.start_b.new.ask c.start_b.new.round c.args.presentation.now.selection) talk (before ++ told_by c.args.events.now.items) st.results 63 (c.start_b.ensures.left c.args.presentation.now.selection)
+    ∙ sym (again_ends K.steps ones (K.state c.args.kernels.now) objects c.args.fsdi link (onward_of c.start_b.result c.start_b.new.ask c.start_b.new.round c.args.presentation.now.selection) talk (before ++ told_by c.args.events.now.items) st.results (ROUNDS - 1) (c.start_b.ensures.left c.args.presentation.now.selection)
     (subst (λ (t : Standing). Turned K.steps ones (K.state c.args.kernels.now) objects c.args.fsdi link (onward_of c.start_b.result c.start_b.new.ask c.start_b.new.round c.args.presentation.now.selection) talk t (before ++ told_by c.args.events.now.items)) now turned)))
 
 pub returns-in-Close-false-clause-rounds : goal.returns-in-Close-false-clause-rounds
@@ -173,7 +174,7 @@ returns-in-Close-false-clause-rounds g c = λ talk st before h same.
 pub returns-in-Close-true-clause-failed : goal.returns-in-Close-true-clause-failed
 returns-in-Close-true-clause-failed g c = λ talk st before h.
     let o = onward_of c.start_b.result c.start_b.new.ask c.start_b.new.round c.args.presentation.now.selection in
-    none_failed o (heard_of c.args.heard.now) st.doing (link_held c.args.presentation.now.link) (polls_unfailed o 63 (c.start_b.ensures.left c.args.presentation.now.selection))
+    none_failed o (heard_of c.args.heard.now) st.doing (link_held c.args.presentation.now.link) (polls_unfailed o (ROUNDS - 1) (c.start_b.ensures.left c.args.presentation.now.selection))
 
 pub returns-in-Close-false-clause-failed : goal.returns-in-Close-false-clause-failed
 returns-in-Close-false-clause-failed g c = λ talk st before h.

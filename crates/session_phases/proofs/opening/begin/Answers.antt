@@ -1,5 +1,6 @@
-use Rattle.std.proofs.Common.{Bool, false, List, [], None, refl, ap, sym, subst, arith}
+use Rattle.std.proofs.Common.{◌-◌, Bool, false, List, [], None, refl, ap, sym, subst, arith}
 use Rattle.std.specs.Prelude.{if◌then◌else◌}
+use Rattle.ep_base.specs.declared.limits.TheConstants.{ROUNDS}
 use Rattle.ep_rules.specs.EntryPoint.Transaction.{transaction, starts, presented}
 use Rattle.ep_rules.specs.EntryPoint.Event.{Finished}
 use Rattle.ep_rules.specs.EntryPoint.Talk.{Talk, Over}
@@ -31,7 +32,7 @@ returns-then-open-clause-turned g c =
     subst (λ (b : Bool). Comes talk [] (told_by c.open.new.events.items) (if b then first else Over Finished)) c.if-open.true (c.open.ensures.goes talk [] [] first here) in
     rolled K.steps ones s c.args.presentation.now.arena.objects c.args.fsdi None (onward_of c.start_b.result c.start_b.new.ask c.start_b.new.round c.args.presentation.now.selection) talk (started talk) (told_by c.open.new.events.items) (K.steps.restarts s) (omega arith)
     (c.start_b.ensures.turned talk [] (told_by c.open.new.events.items) (after_ppse K.steps ones s (K.steps.restarts s)) None None c.args.presentation.now.selection
-    (same_rest talk [] (told_by c.open.new.events.items) first (polls 63 false (presented K.steps (next_start K.steps ones (K.steps.restarts s)) ones s)) (starting K.steps ones s (K.steps.restarts s)) goes))
+    (same_rest talk [] (told_by c.open.new.events.items) first (polls (ROUNDS - 1) false (presented K.steps (next_start K.steps ones (K.steps.restarts s)) ones s)) (starting K.steps ones s (K.steps.restarts s)) goes))
 
 pub returns-clause-turned : goal.returns-clause-turned
 returns-clause-turned g c =
@@ -58,7 +59,7 @@ returns-clause-fits g c =
 
 pub returns-then-open-clause-done : goal.returns-then-open-clause-done
 returns-then-open-clause-done g c =
-    polls_done (onward_of c.start_b.result c.start_b.new.ask c.start_b.new.round c.args.presentation.now.selection) 63 (c.start_b.ensures.left c.args.presentation.now.selection)
+    polls_done (onward_of c.start_b.result c.start_b.new.ask c.start_b.new.round c.args.presentation.now.selection) (ROUNDS - 1) (c.start_b.ensures.left c.args.presentation.now.selection)
 
 pub returns-clause-done : goal.returns-clause-done
 returns-clause-done g c =
