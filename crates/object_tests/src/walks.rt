@@ -1,6 +1,6 @@
-use tlv_core::{Node, TlvFault, Walk, read, write_length, write_tag};
 use arrayvec::ArrayVec;
 use ep_base::FrameBuf;
+use tlv_core::{Node, TlvFault, Walk, read, write_length, write_tag};
 
 fn fault_of(bytes: &[u8]) -> Option<(TlvFault, usize)> {
     read(bytes).err()
@@ -19,6 +19,12 @@ fn count_of(mut walk: Walk<'_>) -> usize {
 
 fn nodes_of(bytes: &[u8]) -> Option<usize> {
     read(bytes).ok().map(count_of)
+}
+
+/// The place and the length of the first node's value.
+fn first_value(bytes: &[u8]) -> Option<(usize, usize)> {
+    let node = read(bytes).ok()?.next()?;
+    Some((node.at, node.len))
 }
 
 #[test]
@@ -49,6 +55,8 @@ fn short_inputs(rt: HostRuntime) {
         Some((TlvFault::ValueCut, 0))
     );
     assert_eq!(rt; nodes_of(&[0x4f, 0x81, 0x01, 0xaa]), Some(1));
+    assert_eq!(rt; first_value(&[0x4f, 0x81, 0x01, 0xaa]), Some((3, 1)));
+    assert_eq!(rt; first_value(&[0x4f, 0x82, 0x00, 0x01, 0xaa]), Some((4, 1)));
     assert_eq!(rt; nodes_of(&[0, 0, 0]), Some(0));
 }
 
