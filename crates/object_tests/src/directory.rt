@@ -1,9 +1,9 @@
+use apdu::Response;
+use ep_base::{ARENA_BYTES, ARENA_SLOTS};
 use ppse::{
     ADF_NAME, APPLICATION_LABEL, APPLICATION_PRIORITY, EXTENDED_SELECTION, KERNEL_IDENTIFIER,
     entry_value, read_directory,
 };
-use apdu::Response;
-use ep_base::{ARENA_BYTES, ARENA_SLOTS};
 use std::alloc::Global;
 use tlv_arena::Arena;
 

@@ -1,6 +1,6 @@
-use tlv_core::{Node, TlvFault, Walk, read, write_length, write_tag};
 use arrayvec::ArrayVec;
 use ep_base::FrameBuf;
+use tlv_core::{Node, TlvFault, Walk, read, write_length, write_tag};
 
 fn fault_of(bytes: &[u8]) -> Option<(TlvFault, usize)> {
     read(bytes).err()
