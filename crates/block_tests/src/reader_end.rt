@@ -2,9 +2,9 @@
 ghost use Rattle.std.specs.Prelude.{◌≡◌, ◌≤◌, ◌<◌, true, is_ok, length};
 ghost use Rattle.block_reader.specs.Stands.{held, is_open, is_resting};
 
-use block_reader::{Breach, LinkEnd, Next, Phase, ReaderEnd};
 use apdu::{Command, Response};
 use arrayvec::ArrayVec;
+use block_reader::{Breach, LinkEnd, Next, Phase, ReaderEnd};
 use ep_base::{CardKind, FRAME, MESSAGE, Wave};
 use rf_frame::{Activated, Ask, Heard, sent_message};
 use std::test::Fail;

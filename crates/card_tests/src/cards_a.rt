@@ -4,7 +4,8 @@ ghost use Rattle.std.specs.Option.{IsNone};
 
 use std::test::Fail;
 use type_a::{
-    ACard, APlan, AReader, Activated, Ats, AtsFault, Buf, CardHear, CardKind, FrameBuf, Heard, RoundEnd, Sent, Wave, parse_ats,
+    ACard, APlan, AReader, Activated, Ats, AtsFault, Buf, CardHear, CardKind, FrameBuf, Heard,
+    RoundEnd, Sent, Wave, parse_ats,
 };
 
 /// A card with this UID, and with two historical bytes or none.

@@ -1,7 +1,7 @@
 //! A reader against a card, in frames as they are sent.
+use rf_frame::{Activated, Buf, CardHear, CardKind, FrameBuf, Heard, RoundEnd, Sent, Wave};
 use std::test::Fail;
 use type_b::{BCard, BPlan, BReader};
-use rf_frame::{Activated, Buf, CardHear, CardKind, FrameBuf, Heard, RoundEnd, Sent, Wave};
 
 fn framed(bytes: &[u8]) -> Result<FrameBuf, Fail> {
     let mut frame = FrameBuf::new();

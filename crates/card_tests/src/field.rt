@@ -3,8 +3,8 @@ ghost use Rattle.std.specs.Prelude.{IfOk};
 ghost use Rattle.rf_field.specs.Meaning.{IsRun};
 ghost use Rattle.rf_field.specs.Plans.{PlanFits};
 
-use rf_field::{APlan, BPlan, Buf, CardImage, CardPlan, Fate, FateRun, Field, Medium, Way};
 use ep_base::{FrameBuf, Wave};
+use rf_field::{APlan, BPlan, Buf, CardImage, CardPlan, Fate, FateRun, Field, Medium, Way};
 use rf_frame::Heard;
 use std::alloc::Global;
 use std::process::Abort;

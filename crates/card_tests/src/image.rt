@@ -2,9 +2,9 @@
 ghost use Rattle.std.specs.Prelude.{◌≡◌, ◌≤◌, ◌∷◌, [], length, IfOk};
 ghost use Rattle.ep_base.specs.Cards.CardAnswer.{IsResponse, AreAnswers, IsRule, IsApp, unused};
 
-use card_image::{App, CardImage, CardLog, Rule};
 use apdu::{Command, Response};
 use arrayvec::ArrayVec;
+use card_image::{App, CardImage, CardLog, Rule};
 use std::alloc::Global;
 use std::test::Fail;
 

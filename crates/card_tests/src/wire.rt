@@ -1,9 +1,9 @@
 //! One card under fates, exchange by exchange.
 ghost use Rattle.rf_field.specs.Meaning.{IsRun};
 
-use rf_field::{Burst, CardImage, CardKind, Fate, FateRun, Medium, Way, Wire};
 use apdu::Command;
 use ep_base::{FrameBuf, Wave};
+use rf_field::{Burst, CardImage, CardKind, Fate, FateRun, Medium, Way, Wire};
 use rf_frame::Heard;
 use std::process::Abort;
 use std::test::Fail;

@@ -1,6 +1,8 @@
 use ep_base::MESSAGE;
 use rf_frame::{
-    Activated, Ask, Buf, Burst, CardHear, CardKind, FrameBuf, Heard, Medium, RfFailed, RoundEnd, Wave, answer_in, ask_message, burst_seen, check, copy_frame, exchange, flip, good, open_frame, seal, sent_message,
+    Activated, Ask, Buf, Burst, CardHear, CardKind, FrameBuf, Heard, Medium, RfFailed, RoundEnd,
+    Wave, answer_in, ask_message, burst_seen, check, copy_frame, exchange, flip, good, open_frame,
+    seal, sent_message,
 };
 use std::test::Fail;
 

@@ -11,8 +11,3 @@ pub use carrying::carry;
 pub use direct::Direct;
 pub use radio::RfTransport;
 pub use transport::{PresentEnd, Presented, Transport};
-
-#[cfg(test)]
-mod radio_tests;
-#[cfg(test)]
-mod tests;

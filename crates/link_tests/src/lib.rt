@@ -9,8 +9,3 @@ mod presenting;
 
 pub use field_reader::FieldReader;
 pub use open_link::OpenLink;
-
-#[cfg(test)]
-mod field_tests;
-#[cfg(test)]
-mod tests;

@@ -6,7 +6,7 @@ use Rattle.ep_base.specs.Cards.Lawful.{Bytes, Lawful}
 use Rattle.rf_field.specs.Fields.{field_of}
 use Rattle.rf_field.specs.Meaning.{exchange_fates}
 use Rattle.link_tests.proofs.Ready.{all_fates}
-use Rattle.link_tests.proofs.field_tests.smallest_frames.Goals as goal
+use Rattle.carry_tests.proofs.field.smallest_frames.Goals as goal
 
 pub returns : goal.returns
 returns c =
@@ -17,4 +17,4 @@ returns c =
     let all = new_field (card ∷ []) [] fates 4 in
     let field : field_of c.in-Ok.field ≡ all = search rules in
     subst (λ (f : Field). Lawful f) (sym field)
-    (begins_lawful_law.2 (card ∷ []) [] fates 4 (begins_lawful_law.1 plan image (Bytes 17 34 51 68) c.number-number.ensures.limits, tt) (tt, tt) (all_fates c.args.fates.items c.requires))
+    (begins_lawful_law.2 (card ∷ []) [] fates 4 (begins_lawful_law.1 plan image (Bytes 17 34 51 68) c.number-number.ensures.limits, tt) (tt, tt) (all_fates c.args.fates.items c.requires.runs))
