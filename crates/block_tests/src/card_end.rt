@@ -1,10 +1,10 @@
 //! The card's end, block by block.
+ghost use Rattle.std.specs.Prelude.{◌≤◌};
 
 use block_card::{CardEnd, CardKind, CardNext, Response};
-use ep_base::{INF, MESSAGE};
+use ep_base::MESSAGE;
 use rf_frame::{Wave, open_frame};
 use std::process::Abort;
-use std::test::Fail;
 
 const COMMAND: [u8; 4] = [0x00, 0xb2, 0x01, 0x0c];
 
@@ -23,127 +23,97 @@ fn executed(next: &CardNext) -> Option<&[u8]> {
     }
 }
 
-// One block after another, each with what the card says to it.
-fn talk<'a, 'b>(rt: &impl Abort, end: &mut CardEnd, exchanges: &[(&'a [u8], Option<&'b [u8]>)]) {
-    for (block, wanted) in exchanges {
-        let next = end.receive(Some(*block));
-        assert_eq!(rt; said(&next), *wanted, "at {block:?}");
-    }
+// A block, and what the card says to it.
+fn says(rt: &impl Abort, end: &mut CardEnd, block: &[u8], wanted: Option<&[u8]>) {
+    let next = end.receive(Some(block));
+    assert_eq!(rt; said(&next), wanted, "at {block:?}");
+}
+
+// A block with which the command is there.
+fn executes(rt: &impl Abort, end: &mut CardEnd, block: &[u8]) {
+    let next = end.receive(Some(block));
+    assert_eq!(rt; executed(&next), Some(COMMAND.as_slice()));
+}
+
+// A response, for which time is asked so often with WTXM, and the first block that the card says.
+fn answers(rt: &impl Abort, end: &mut CardEnd, bytes: &[u8], wtx: u8, wtxm: u8, wanted: &[u8])
+    requires waits { wtx ≤ 8 }
+    requires least { 1 ≤ wtxm }
+    requires most { wtxm ≤ 59 }
+{
+    let Ok(response) = Response::of(bytes) else {
+        panic!(rt; "no response");
+    };
+    let frame = end.answer(&response, wtx, wtxm);
+    assert_eq!(rt; open_frame(Wave::A, &frame), Some(wanted));
 }
 
 #[test]
-fn a_command_in_two_parts(rt: HostRuntime) -> Result<(), Fail> {
+fn a_command_in_two_parts(rt: HostRuntime) {
     let mut end = CardEnd::open(CardKind::A, 256);
-    talk(&rt, &mut end, &[(b"\x12\x00\xb2", Some(b"\xa2"))]);
+    says(&rt, &mut end, b"\x12\x00\xb2", Some(b"\xa2"));
     let next = end.receive(None);
     assert_eq!(rt; (said(&next), executed(&next)), (None, None));
-    let next = end.receive(Some(b"\x03\x01\x0c"));
-    assert_eq!(rt; executed(&next), Some(COMMAND.as_slice()));
-    let response = Response::of(b"\x90\x00").map_err(|_| "short")?;
-    let frame = end.answer(&response, 0, 1);
-    assert_eq!(rt;
-        open_frame(Wave::A, &frame),
-        Some(b"\x03\x90\x00".as_slice())
-    );
-    Ok(())
+    executes(&rt, &mut end, b"\x03\x01\x0c");
+    answers(&rt, &mut end, b"\x90\x00", 0, 1, b"\x03\x90\x00");
 }
 
 #[test]
-fn a_response_in_two_parts_of_which_one_is_lost(rt: HostRuntime) -> Result<(), Fail> {
+fn a_response_in_two_parts_of_which_one_is_lost(rt: HostRuntime) {
     let mut end = CardEnd::open(CardKind::A, 16);
-    let next = end.receive(Some(b"\x02\x00\xb2\x01\x0c"));
-    assert_eq!(rt; executed(&next), Some(COMMAND.as_slice()));
-    let response = Response::of(
-        b"\x01\x02\x03\x04\x05\x06\x07\x08\x09\x0a\x0b\x0c\x0d\x0e\x90\x00",
-    ).map_err(|_| "short")?;
-    let frame = end.answer(&response, 0, 1);
-    assert_eq!(rt;
-        open_frame(Wave::A, &frame),
-        Some(b"\x12\x01\x02\x03\x04\x05\x06\x07\x08\x09\x0a\x0b\x0c\x0d".as_slice())
-    );
-    talk(
-        &rt,
-        &mut end,
-        &[
-            (
-                b"\xb2",
-                Some(b"\x12\x01\x02\x03\x04\x05\x06\x07\x08\x09\x0a\x0b\x0c\x0d"),
-            ),
-            (b"\xb3", Some(b"\xa2")),
-            (b"\xa2", Some(b"\xa2")),
-            (b"\xa3", Some(b"\x03\x0e\x90\x00")),
-            (b"\xa3", Some(b"\x03\x0e\x90\x00")),
-            (b"\xb3", Some(b"\x03\x0e\x90\x00")),
-            (b"\xa2", None),
-        ],
-    );
-    Ok(())
+    let response = b"\x01\x02\x03\x04\x05\x06\x07\x08\x09\x0a\x0b\x0c\x0d\x0e\x90\x00";
+    let part = b"\x12\x01\x02\x03\x04\x05\x06\x07\x08\x09\x0a\x0b\x0c\x0d";
+    executes(&rt, &mut end, b"\x02\x00\xb2\x01\x0c");
+    answers(&rt, &mut end, response, 0, 1, part);
+    says(&rt, &mut end, b"\xb2", Some(part));
+    says(&rt, &mut end, b"\xb3", Some(b"\xa2"));
+    says(&rt, &mut end, b"\xa2", Some(b"\xa2"));
+    says(&rt, &mut end, b"\xa3", Some(b"\x03\x0e\x90\x00"));
+    says(&rt, &mut end, b"\xa3", Some(b"\x03\x0e\x90\x00"));
+    says(&rt, &mut end, b"\xb3", Some(b"\x03\x0e\x90\x00"));
+    says(&rt, &mut end, b"\xa2", None);
 }
 
 #[test]
-fn time_is_asked_for_twice(rt: HostRuntime) -> Result<(), Fail> {
+fn time_is_asked_for_twice(rt: HostRuntime) {
     let mut end = CardEnd::open(CardKind::A, 256);
-    let next = end.receive(Some(b"\x02\x00\xb2\x01\x0c"));
-    assert_eq!(rt; executed(&next), Some(COMMAND.as_slice()));
-    let response = Response::of(b"\x90\x00").map_err(|_| "short")?;
-    let frame = end.answer(&response, 2, 3);
-    assert_eq!(rt; open_frame(Wave::A, &frame), Some(b"\xf2\x03".as_slice()));
-    talk(
-        &rt,
-        &mut end,
-        &[
-            (b"\xb2", Some(b"\xf2\x03")),
-            (b"\xf2\x43", Some(b"\xf2\x03")),
-            (b"\xf2\x03", Some(b"\x02\x90\x00")),
-            (b"\xf2\x03", None),
-        ],
-    );
-    Ok(())
+    executes(&rt, &mut end, b"\x02\x00\xb2\x01\x0c");
+    answers(&rt, &mut end, b"\x90\x00", 2, 3, b"\xf2\x03");
+    says(&rt, &mut end, b"\xb2", Some(b"\xf2\x03"));
+    says(&rt, &mut end, b"\xf2\x43", Some(b"\xf2\x03"));
+    says(&rt, &mut end, b"\xf2\x03", Some(b"\x02\x90\x00"));
+    says(&rt, &mut end, b"\xf2\x03", None);
 }
 
 #[test]
 fn too_long_a_command_is_dropped(rt: HostRuntime) {
     let mut end = CardEnd::open(CardKind::A, 256);
-    let part = [0u8; INF];
     let mut longest = [0u8; MESSAGE];
     longest[0] = 0x12;
-    longest[1..].copy_from_slice(&part);
-    talk(
+    says(&rt, &mut end, &longest, Some(b"\xa2"));
+    says(
         &rt,
         &mut end,
-        &[
-            (&longest, Some(b"\xa2")),
-            (b"\x13\x00\x00\x00\x00\x00\x00\x00\x00", Some(b"\xa3")),
-            (b"\x02\x00", None),
-            (b"\xb3", Some(b"\xa3")),
-        ],
+        b"\x13\x00\x00\x00\x00\x00\x00\x00\x00",
+        Some(b"\xa3"),
     );
-    let next = end.receive(Some(b"\x02\x00\xb2\x01\x0c"));
-    assert_eq!(rt; executed(&next), Some(COMMAND.as_slice()));
+    says(&rt, &mut end, b"\x02\x00", None);
+    says(&rt, &mut end, b"\xb3", Some(b"\xa3"));
+    executes(&rt, &mut end, b"\x02\x00\xb2\x01\x0c");
 }
 
 #[test]
 fn bytes_that_are_no_command_and_a_halt(rt: HostRuntime) {
     let mut end = CardEnd::open(CardKind::A, 16);
-    talk(
-        &rt,
-        &mut end,
-        &[
-            (b"\xb2", Some(b"\xa3")),
-            (b"\x02\x00\xa4\x04", Some(b"\x02\x67\x00")),
-            (b"\x03", Some(b"\x03\x67\x00")),
-            (b"\xe2", None),
-        ],
-    );
-    let next = end.receive(Some(b"\xc2"));
-    let CardNext::Send(frame) = next else {
+    says(&rt, &mut end, b"\xb2", Some(b"\xa3"));
+    says(&rt, &mut end, b"\x02\x00\xa4\x04", Some(b"\x02\x67\x00"));
+    says(&rt, &mut end, b"\x03", Some(b"\x03\x67\x00"));
+    says(&rt, &mut end, b"\xe2", None);
+    let CardNext::Send(frame) = end.receive(Some(b"\xc2")) else {
         panic!(rt; "no answer");
     };
     assert_eq!(rt; frame.as_slice(), b"\xc2\xe0\xb4".as_slice());
     assert!(rt; end.halted());
-    talk(
-        &rt,
-        &mut end,
-        &[(b"\xc2", None), (b"\x02\x00\xb2\x01\x0c", None)],
-    );
+    says(&rt, &mut end, b"\xc2", None);
+    says(&rt, &mut end, b"\x02\x00\xb2\x01\x0c", None);
 }

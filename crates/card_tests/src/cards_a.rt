@@ -1,17 +1,17 @@
 //! A reader against a card, and frames by hand.
-ghost use Rattle.std.specs.Prelude.{IsSome, IsOk};
+ghost use Rattle.std.specs.Prelude.{IsSome};
 ghost use Rattle.std.specs.Option.{IsNone};
 
-use std::test::Fail;
+use std::process::Abort;
 use type_a::{
-    ACard, APlan, AReader, Activated, Ats, AtsFault, Buf, CardHear, CardKind, FrameBuf, Heard,
-    RoundEnd, Sent, Wave, parse_ats,
+    ACard, APlan, AReader, Ats, AtsFault, Buf, CardHear, CardKind, Heard, RoundEnd, Sent, Wave,
+    parse_ats,
 };
 
 /// A card with this UID, and with two historical bytes or none.
-fn card(uid: &[u8], fwi: u8, historical: &[u8]) -> Result<ACard, Fail> {
+fn card(rt: &impl Abort, uid: &[u8], fwi: u8, historical: &[u8]) -> ACard {
     if uid.len() != 4 && uid.len() != 7 && uid.len() != 10 || fwi > 14 {
-        return Err("no such card".into());
+        panic!(rt; "no such card");
     }
     let mut plan = APlan {
         uid: Buf::<10>::new(),
@@ -20,9 +20,13 @@ fn card(uid: &[u8], fwi: u8, historical: &[u8]) -> Result<ACard, Fail> {
         fwi,
         historical: Buf::<15>::new(),
     };
-    plan.uid.try_extend_from_slice(uid)?;
-    plan.historical.try_extend_from_slice(historical)?;
-    Ok(ACard::open(plan))
+    let Ok(()) = plan.uid.try_extend_from_slice(uid) else {
+        panic!(rt; "the UID is too long");
+    };
+    let Ok(()) = plan.historical.try_extend_from_slice(historical) else {
+        panic!(rt; "too many historical bytes");
+    };
+    ACard::open(plan)
 }
 
 /// What a reader hears of one card alone.
@@ -47,110 +51,101 @@ fn exchange(reader: &mut AReader, card: &mut ACard) -> Option<RoundEnd>
 }
 
 /// One exchange after which the round goes on.
-fn goes_on(reader: &mut AReader, card: &mut ACard) -> Result<(), Fail>
+fn goes_on(rt: &impl Abort, reader: &mut AReader, card: &mut ACard)
     requires { IsSome reader.old.stage }
-    ensures { IsOk result → IsSome reader.new.stage }
+    ensures { IsSome reader.new.stage }
 {
-    match exchange(reader, card) {
-        None => Ok(()),
-        Some(_) => Err("the round ended".into()),
-    }
+    let None = exchange(reader, card) else {
+        panic!(rt; "the round ended");
+    };
 }
 
 /// The question for a level and its selection.
-fn selects(reader: &mut AReader, card: &mut ACard) -> Result<(), Fail>
+fn selects(rt: &impl Abort, reader: &mut AReader, card: &mut ACard)
     requires { IsSome reader.old.stage }
-    ensures { IsOk result → IsSome reader.new.stage }
+    ensures { IsSome reader.new.stage }
 {
-    goes_on(reader, card)?;
-    goes_on(reader, card)
+    goes_on(rt, reader, card);
+    goes_on(rt, reader, card);
+}
+
+/// A round with a card of this UID, which is found.
+fn finds(rt: &impl Abort, uid: &[u8]) {
+    let mut card = card(rt, uid, 7, b"\x80\x31");
+    let mut reader = AReader::open(8);
+    goes_on(rt, &mut reader, &mut card);
+    if uid.len() > 4 {
+        selects(rt, &mut reader, &mut card);
+    }
+    if uid.len() > 7 {
+        selects(rt, &mut reader, &mut card);
+    }
+    selects(rt, &mut reader, &mut card);
+    let Some(RoundEnd::Card(found)) = exchange(&mut reader, &mut card) else {
+        panic!(rt; "no card");
+    };
+    assert_eq!(rt; found.id.as_slice(), uid);
+    assert_eq!(rt; (found.kind, found.fsc, found.fwi), (CardKind::A, 256, 7));
 }
 
 #[test]
-fn uids_of_each_length(rt: HostRuntime) -> Result<(), Fail> {
-    let uids = [
-        b"\x01\x02\x03\x04".as_slice(),
-        b"\x04\x11\x22\x33\x44\x55\x66".as_slice(),
-        b"\x88\x11\x22\x33\x44\x55\x66".as_slice(),
-        b"\x04\x11\x22\x33\x44\x55\x66\x77\x88\x99".as_slice(),
-        b"\x88\x11\x22\x88\x44\x55\x88\x77\x88\x99".as_slice(),
-    ];
-    for uid in uids {
-        let mut card = card(uid, 7, b"\x80\x31")?;
-        let mut reader = AReader::open(8);
-        goes_on(&mut reader, &mut card)?;
-        if uid.len() > 4 {
-            selects(&mut reader, &mut card)?;
-        }
-        if uid.len() > 7 {
-            selects(&mut reader, &mut card)?;
-        }
-        selects(&mut reader, &mut card)?;
-        let found = exchange(&mut reader, &mut card);
-        let mut id = Buf::<10>::new();
-        id.try_extend_from_slice(uid)?;
-        assert_eq!(rt;
-            found,
-            Some(RoundEnd::Card(Activated {
-                kind: CardKind::A,
-                id,
-                fsc: 256,
-                fwi: 7
-            })),
-            "{uid:?}"
-        );
-    }
-    Ok(())
+fn uids_of_each_length(rt: HostRuntime) {
+    finds(&rt, b"\x01\x02\x03\x04");
+    finds(&rt, b"\x04\x11\x22\x33\x44\x55\x66");
+    finds(&rt, b"\x88\x11\x22\x33\x44\x55\x66");
+    finds(&rt, b"\x04\x11\x22\x33\x44\x55\x66\x77\x88\x99");
+    finds(&rt, b"\x88\x11\x22\x88\x44\x55\x88\x77\x88\x99");
 }
 
 /// One exchange with these frames, after which the round goes on.
-fn sends(reader: &mut AReader, card: &mut ACard, wanted: &[u8], answer: &[u8]) -> Result<(), Fail>
+fn sends(rt: &impl Abort, reader: &mut AReader, card: &mut ACard, wanted: &[u8], answer: &[u8])
     requires { IsSome reader.old.stage }
-    ensures { IsOk result → IsSome reader.new.stage }
+    ensures { IsSome reader.new.stage }
 {
     let ask = reader.ask();
-    if ask.reset || ask.wait != 0 || ask.frame.as_slice() != wanted {
-        return Err("another frame".into());
-    }
-    match card.hear(ask.wave, &ask.frame) {
-        CardHear::Send(sent) if sent.frame.as_slice() == answer => {
-            match reader.heard(&heard(CardHear::Send(sent))) {
-                None => Ok(()),
-                Some(_) => Err("the round ended".into()),
-            }
-        }
-        _ => Err("another answer".into()),
-    }
+    assert_eq!(rt;
+        (ask.reset, ask.wait, ask.frame.as_slice()),
+        (false, 0, wanted)
+    );
+    let CardHear::Send(sent) = card.hear(ask.wave, &ask.frame) else {
+        panic!(rt; "no answer");
+    };
+    assert_eq!(rt; sent.frame.as_slice(), answer);
+    let None = reader.heard(&heard(CardHear::Send(sent))) else {
+        panic!(rt; "the round ended");
+    };
 }
 
 #[test]
-fn frames_as_sent(rt: HostRuntime) -> Result<(), Fail> {
-    let mut card = card(b"\x01\x02\x03\x04", 4, b"")?;
+fn frames_as_sent(rt: HostRuntime) {
+    let mut card = card(&rt, b"\x01\x02\x03\x04", 4, b"");
     let mut reader = AReader::open(8);
-    sends(&mut reader, &mut card, b"\x52", b"\x04\x00")?;
-    sends(&mut reader, &mut card, b"\x93\x20", b"\x01\x02\x03\x04\x04")?;
+    sends(&rt, &mut reader, &mut card, b"\x52", b"\x04\x00");
+    sends(
+        &rt,
+        &mut reader,
+        &mut card,
+        b"\x93\x20",
+        b"\x01\x02\x03\x04\x04",
+    );
     let select = b"\x93\x70\x01\x02\x03\x04\x04\x8e\x25";
-    sends(&mut reader, &mut card, select, b"\x20\xfc\x70")?;
+    sends(&rt, &mut reader, &mut card, select, b"\x20\xfc\x70");
     let rats = reader.ask();
     assert_eq!(rt; rats.frame.as_slice(), b"\xe0\x80\x31\x73".as_slice());
-    let answer = card.hear(rats.wave, &rats.frame);
-    let mut frame = FrameBuf::new();
-    frame.try_extend_from_slice(b"\x03\x28\x40\x87\xe5")?;
-    let wave = Wave::A;
-    let ats = Sent { wave, frame };
-    assert_eq!(rt;
-        answer,
-        CardHear::Opened {
-            answer: ats,
-            fsd: 256
-        }
+    let CardHear::Opened { answer, fsd } = card.hear(rats.wave, &rats.frame) else {
+        panic!(rt; "no block protocol");
+    };
+    assert_eq!(rt; (answer.wave, fsd), (Wave::A, 256));
+    assert_eq!(rt; answer.frame.as_slice(), b"\x03\x28\x40\x87\xe5".as_slice());
+    assert!(rt;
+        reader
+            .heard(&heard(CardHear::Opened { answer, fsd }))
+            .is_some()
     );
-    assert!(rt; reader.heard(&heard(answer)).is_some());
-    Ok(())
 }
 
 #[test]
-fn ats_rows(rt: HostRuntime) -> Result<(), Fail> {
+fn ats_rows(rt: HostRuntime) {
     assert_eq!(rt;
         parse_ats(b"\x05\x78\x80\x70\x02"),
         Ok(Ats { fsc: 256, fwi: 7 })
@@ -158,5 +153,4 @@ fn ats_rows(rt: HostRuntime) -> Result<(), Fail> {
     assert_eq!(rt; parse_ats(b"\x01"), Ok(Ats { fsc: 32, fwi: 4 }));
     assert_eq!(rt; parse_ats(b"\x02\x78"), Err(AtsFault::Cut));
     assert_eq!(rt; parse_ats(b"\x03\x28"), Err(AtsFault::LengthWrong));
-    Ok(())
 }

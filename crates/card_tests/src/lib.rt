@@ -1,4 +1,4 @@
-//! Tests of cards: their activation, what an image answers, poll rounds, and cards under fates.
+//! Tests of cards: activation of both types, and what an image answers.
 #![tactic(auto)]
 
 #[cfg(test)]
@@ -6,10 +6,4 @@ mod cards_a;
 #[cfg(test)]
 mod cards_b;
 #[cfg(test)]
-mod field;
-#[cfg(test)]
 mod image;
-#[cfg(test)]
-mod polling;
-#[cfg(test)]
-mod wire;

@@ -1,4 +1,5 @@
 //! One card under fates, exchange by exchange.
+ghost use Rattle.std.specs.Prelude.{All};
 ghost use Rattle.rf_field.specs.Meaning.{IsRun};
 
 use apdu::Command;
@@ -6,7 +7,6 @@ use ep_base::{FrameBuf, Wave};
 use rf_field::{Burst, CardImage, CardKind, Fate, FateRun, Medium, Way, Wire};
 use rf_frame::Heard;
 use std::process::Abort;
-use std::test::Fail;
 
 // SELECT PPSE, its answer by an image without responses, R(NAK) 0 and S(DESELECT).
 const SELECT: [u8; 23] = *b"\x02\x00\xa4\x04\x00\x0e2PAY.SYS.DDF01\x00\xe0\x42";
@@ -37,11 +37,22 @@ fn exchange(rt: &impl Abort, wire: &mut Wire, sent: &[u8], wanted: &[u8]) {
     }
 }
 
+// A wire to a card whose image has no responses.
+fn wire(rt: &(impl Abort + AllocGlobal), fates: Vec<FateRun>, room: usize) -> Wire
+    requires { All IsRun fates.items }
+{
+    let Ok(image) = CardImage::open(rt.alloc(), 1, Vec::new(rt.alloc()), Vec::new(rt.alloc()))
+    else {
+        panic!(rt; "memory");
+    };
+    let Ok(wire) = Wire::open(rt.alloc(), CardKind::A, 256, image, fates, room) else {
+        panic!(rt; "memory");
+    };
+    wire
+}
+
 #[test]
-fn frames_and_answers_are_lost_or_damaged(rt: HostRuntime) -> Result<(), Fail> {
-    let image = CardImage::open(rt.alloc(), 1, Vec::new(rt.alloc()), Vec::new(rt.alloc())).map_err(
-        |_| "memory",
-    )?;
+fn frames_and_answers_are_lost_or_damaged(rt: HostRuntime) {
     let first = Way::Burst(Burst { start: 0, mask: 1 });
     let past = Way::Burst(Burst {
         start: 40,
@@ -54,21 +65,19 @@ fn frames_and_answers_are_lost_or_damaged(rt: HostRuntime) -> Result<(), Fail> {
         one(first, Way::Pass),
         one(Way::Pass, first),
         one(Way::Pass, past),
-    ]?;
-    let mut wire = Wire::open(rt.alloc(), CardKind::A, 256, image, fates, 2).map_err(|_| "memory")?;
-    for (sent, wanted) in [
-        (SELECT.as_slice(), b"".as_slice()),
-        (SELECT.as_slice(), b"".as_slice()),
-        (NAK.as_slice(), NOT_FOUND.as_slice()),
-        (NAK.as_slice(), NOT_FOUND.as_slice()),
-        (NAK.as_slice(), b"".as_slice()),
-        (NAK.as_slice(), b"\x03\x6a\x82\x93\x2f".as_slice()),
-        (NAK.as_slice(), NOT_FOUND.as_slice()),
-        (DESELECT.as_slice(), DESELECT.as_slice()),
-        (NAK.as_slice(), b"".as_slice()),
-    ] {
-        exchange(&rt, &mut wire, sent, wanted);
-    }
+    ]
+    .ok()
+    .expect(&rt, "memory");
+    let mut wire = wire(&rt, fates, 2);
+    exchange(&rt, &mut wire, &SELECT, b"");
+    exchange(&rt, &mut wire, &SELECT, b"");
+    exchange(&rt, &mut wire, &NAK, &NOT_FOUND);
+    exchange(&rt, &mut wire, &NAK, &NOT_FOUND);
+    exchange(&rt, &mut wire, &NAK, b"");
+    exchange(&rt, &mut wire, &NAK, b"\x03\x6a\x82\x93\x2f");
+    exchange(&rt, &mut wire, &NAK, &NOT_FOUND);
+    exchange(&rt, &mut wire, &DESELECT, &DESELECT);
+    exchange(&rt, &mut wire, &NAK, b"");
     assert_eq!(rt; wire.exchanges(), 9);
     let [executed] = wire.log().records() else {
         panic!(rt; "one command");
@@ -78,40 +87,28 @@ fn frames_and_answers_are_lost_or_damaged(rt: HostRuntime) -> Result<(), Fail> {
         (executed.card, executed.command.bytes()),
         (1, select.bytes())
     );
-    Ok(())
+}
+
+// A card that leaves in the first exchange, and how often its command was executed.
+fn leaves(rt: &(impl Abort + AllocGlobal), down: Way, up: Way, executed: usize) {
+    let fates = vec![in rt.alloc(); one(down, up)].ok().expect(rt, "memory");
+    let mut wire = wire(rt, fates, 2);
+    exchange(rt, &mut wire, &SELECT, b"");
+    assert!(rt; wire.reset().is_ok());
+    exchange(rt, &mut wire, &SELECT, b"");
+    assert_eq!(rt; wire.log().records().len(), executed);
 }
 
 #[test]
-fn a_card_that_left_doesnt_come_back(rt: HostRuntime) -> Result<(), Fail> {
-    for (down, up, executed) in [(Way::Leave, Way::Pass, 0), (Way::Pass, Way::Leave, 1)] {
-        let image = CardImage::open(
-            rt.alloc(),
-            1,
-            Vec::new(rt.alloc()),
-            Vec::new(rt.alloc()),
-        ).map_err(|_| "memory")?;
-        let fates = vec![in rt.alloc(); one(down, up)]?;
-        let mut wire = Wire::open(rt.alloc(), CardKind::A, 256, image, fates, 2).map_err(
-            |_| "memory",
-        )?;
-        exchange(&rt, &mut wire, &SELECT, b"");
-        assert!(rt; wire.reset().is_ok());
-        exchange(&rt, &mut wire, &SELECT, b"");
-        assert_eq!(rt; wire.log().records().len(), executed);
-    }
-    Ok(())
+fn a_card_that_left_doesnt_come_back(rt: HostRuntime) {
+    leaves(&rt, Way::Leave, Way::Pass, 0);
+    leaves(&rt, Way::Pass, Way::Leave, 1);
 }
 
 #[test]
-fn a_card_doesnt_hear_while_the_log_is_full(rt: HostRuntime) -> Result<(), Fail> {
-    let image = CardImage::open(rt.alloc(), 1, Vec::new(rt.alloc()), Vec::new(rt.alloc())).map_err(
-        |_| "memory",
-    )?;
-    let mut wire = Wire::open(rt.alloc(), CardKind::A, 256, image, Vec::new(rt.alloc()), 1).map_err(
-        |_| "memory",
-    )?;
+fn a_card_doesnt_hear_while_the_log_is_full(rt: HostRuntime) {
+    let mut wire = wire(&rt, Vec::new(rt.alloc()), 1);
     exchange(&rt, &mut wire, &SELECT, &NOT_FOUND);
     exchange(&rt, &mut wire, &NAK, b"");
     assert_eq!(rt; wire.log().records().len(), 1);
-    Ok(())
 }

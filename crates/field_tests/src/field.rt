@@ -1,14 +1,12 @@
 //! Cards together in a field, frame by frame.
-ghost use Rattle.std.specs.Prelude.{IfOk};
+ghost use Rattle.std.specs.Prelude.{All};
 ghost use Rattle.rf_field.specs.Meaning.{IsRun};
 ghost use Rattle.rf_field.specs.Plans.{PlanFits};
 
 use ep_base::{FrameBuf, Wave};
 use rf_field::{APlan, BPlan, Buf, CardImage, CardPlan, Fate, FateRun, Field, Medium, Way};
 use rf_frame::Heard;
-use std::alloc::Global;
 use std::process::Abort;
-use std::test::Fail;
 
 const WUPA: [u8; 1] = *b"\x52";
 
@@ -26,26 +24,33 @@ fn one(down: Way, up: Way) -> FateRun
 }
 
 // The numbers of the cards that are present.
-fn numbers(present: &[u8]) -> Result<Buf<4>, Fail> {
+fn numbers(rt: &impl Abort, present: &[u8]) -> Buf<4> {
     let mut list = Buf::<4>::new();
-    list.try_extend_from_slice(present)?;
-    Ok(list)
+    let Ok(()) = list.try_extend_from_slice(present) else {
+        panic!(rt; "too many cards");
+    };
+    list
 }
 
 // An image without responses.
-fn image(alloc: Global, number: u8) -> Result<CardImage, Fail> {
-    let Ok(image) = CardImage::open(alloc, number, Vec::new(alloc), Vec::new(alloc)) else {
-        return Err("memory".into());
+fn image(rt: &(impl Abort + AllocGlobal), number: u8) -> CardImage {
+    let Ok(image) = CardImage::open(
+        rt.alloc(),
+        number,
+        Vec::new(rt.alloc()),
+        Vec::new(rt.alloc()),
+    ) else {
+        panic!(rt; "memory");
     };
-    Ok(image)
+    image
 }
 
 // A card of Type A with this UID.
-fn card_a(alloc: Global, number: u8, uid: &[u8]) -> Result<CardPlan, Fail>
-    ensures { IfOk result (λ p. PlanFits p) }
+fn card_a(rt: &(impl Abort + AllocGlobal), number: u8, uid: &[u8]) -> CardPlan
+    ensures { PlanFits result }
 {
     if uid.len() != 4 && uid.len() != 7 && uid.len() != 10 {
-        return Err("no such card".into());
+        panic!(rt; "no such card");
     }
     let mut plan = APlan {
         uid: Buf::<10>::new(),
@@ -54,13 +59,15 @@ fn card_a(alloc: Global, number: u8, uid: &[u8]) -> Result<CardPlan, Fail>
         fwi: 4,
         historical: Buf::<15>::new(),
     };
-    plan.uid.try_extend_from_slice(uid)?;
-    Ok(CardPlan::A(plan, image(alloc, number)?))
+    let Ok(()) = plan.uid.try_extend_from_slice(uid) else {
+        panic!(rt; "the UID is too long");
+    };
+    CardPlan::A(plan, image(rt, number))
 }
 
 // A card of Type B.
-fn card_b(alloc: Global, number: u8) -> Result<CardPlan, Fail>
-    ensures { IfOk result (λ p. PlanFits p) }
+fn card_b(rt: &(impl Abort + AllocGlobal), number: u8) -> CardPlan
+    ensures { PlanFits result }
 {
     let plan = BPlan {
         pupi: [0x11, 0x22, 0x33, 0x44],
@@ -69,7 +76,24 @@ fn card_b(alloc: Global, number: u8) -> Result<CardPlan, Fail>
         fwi: 4,
         iso4: true,
     };
-    Ok(CardPlan::B(plan, image(alloc, number)?))
+    CardPlan::B(plan, image(rt, number))
+}
+
+// A field of these cards.
+fn opened(
+    rt: &(impl Abort + AllocGlobal),
+    cards: Vec<CardPlan>,
+    presence: Vec<Buf<4>>,
+    fates: Vec<FateRun>,
+    room: usize,
+) -> Field
+    requires plans { All PlanFits cards.items }
+    requires runs { All IsRun fates.items }
+{
+    let Ok(field) = Field::open(rt.alloc(), cards, presence, fates, room) else {
+        panic!(rt; "memory");
+    };
+    field
 }
 
 // Makes one exchange and compares what is heard: overlapping answers where no bytes are wanted, silence where they are
@@ -107,15 +131,15 @@ fn second_level(rt: &impl Abort, field: &mut Field, wanted: Option<&[u8]>) {
 }
 
 #[test]
-fn two_cards_collide_at_a_level(rt: HostRuntime) -> Result<(), Fail> {
-    let cards = vec![in rt.alloc();
-        card_a(rt.alloc(), 1, b"\x04\x11\x22\x33\x44\x55\x66")?,
-        card_a(rt.alloc(), 2, b"\x04\x11\x22\x77\x88\x99\xaa")?,
-    ]?;
-    let presence = vec![in rt.alloc(); numbers(&[1, 2])?, numbers(&[2])?]?;
-    let mut field = Field::open(rt.alloc(), cards, presence, Vec::new(rt.alloc()), 1).map_err(
-        |_| "memory",
-    )?;
+fn two_cards_collide_at_a_level(rt: HostRuntime) {
+    let first = card_a(&rt, 1, b"\x04\x11\x22\x33\x44\x55\x66");
+    let second = card_a(&rt, 2, b"\x04\x11\x22\x77\x88\x99\xaa");
+    let cards = vec![in rt.alloc(); first, second]
+        .ok()
+        .expect(&rt, "memory");
+    let (both, one) = (numbers(&rt, &[1, 2]), numbers(&rt, &[2]));
+    let presence = vec![in rt.alloc(); both, one].ok().expect(&rt, "memory");
+    let mut field = opened(&rt, cards, presence, Vec::new(rt.alloc()), 1);
     assert!(rt; field.reset().is_ok());
     exchange(&rt, &mut field, Wave::AShort, &WUPA, Some(b"\x44\x00"));
     exchange(&rt, &mut field, Wave::A, &HLTA, Some(b""));
@@ -127,18 +151,17 @@ fn two_cards_collide_at_a_level(rt: HostRuntime) -> Result<(), Fail> {
         second_level(&rt, &mut field, Some(b"\x77\x88\x99\xaa\xcc"));
     }
     assert_eq!(rt; (field.rounds(), field.exchanges()), (3, 15));
-    Ok(())
 }
 
 #[test]
-fn cards_leave_and_dont_come_back(rt: HostRuntime) -> Result<(), Fail> {
-    let pass = FateRun::Clean(2);
+fn cards_leave_and_dont_come_back(rt: HostRuntime) {
+    let card = card_a(&rt, 1, b"\x01\x02\x03\x04");
+    let cards = vec![in rt.alloc(); card].ok().expect(&rt, "memory");
     let leave = one(Way::Pass, Way::Leave);
-    let cards = vec![in rt.alloc(); card_a(rt.alloc(), 1, b"\x01\x02\x03\x04")?]?;
-    let fates = vec![in rt.alloc(); pass, leave]?;
-    let mut field = Field::open(rt.alloc(), cards, Vec::new(rt.alloc()), fates, 1).map_err(
-        |_| "memory",
-    )?;
+    let fates = vec![in rt.alloc(); FateRun::Clean(2), leave]
+        .ok()
+        .expect(&rt, "memory");
+    let mut field = opened(&rt, cards, Vec::new(rt.alloc()), fates, 1);
     exchange(&rt, &mut field, Wave::AShort, &WUPA, Some(b""));
     assert!(rt; field.reset().is_ok());
     exchange(&rt, &mut field, Wave::AShort, &WUPA, Some(b"\x04\x00"));
@@ -149,58 +172,73 @@ fn cards_leave_and_dont_come_back(rt: HostRuntime) -> Result<(), Fail> {
     assert!(rt; field.reset().is_ok());
     exchange(&rt, &mut field, Wave::AShort, &WUPA, Some(b""));
     assert_eq!(rt; (field.rounds(), field.exchanges()), (2, 5));
-    Ok(())
 }
 
+// SELECT PPSE as a first block of each type, and its answer by an image without responses.
+const SELECT_A: &[u8] = b"\x02\x00\xa4\x04\x00\x0e2PAY.SYS.DDF01\x00\xe0\x42";
+
+const SELECT_B: &[u8] = b"\x02\x00\xa4\x04\x00\x0e2PAY.SYS.DDF01\x00\x2a\x2d";
+
 #[test]
-fn a_card_of_each_type(rt: HostRuntime) -> Result<(), Fail> {
-    let cards = vec![in rt.alloc();
-        card_b(rt.alloc(), 1)?,
-        card_a(rt.alloc(), 2, b"\x01\x02\x03\x04")?,
-    ]?;
-    let mut field = Field::open(
-        rt.alloc(),
-        cards,
-        Vec::new(rt.alloc()),
-        Vec::new(rt.alloc()),
-        3,
-    )
-    .map_err(|_| "memory")?;
-    let select_a = b"\x02\x00\xa4\x04\x00\x0e2PAY.SYS.DDF01\x00\xe0\x42".as_slice();
-    let select_b = b"\x02\x00\xa4\x04\x00\x0e2PAY.SYS.DDF01\x00\x2a\x2d".as_slice();
+fn a_card_of_each_type(rt: HostRuntime) {
+    let first = card_b(&rt, 1);
+    let second = card_a(&rt, 2, b"\x01\x02\x03\x04");
+    let cards = vec![in rt.alloc(); first, second]
+        .ok()
+        .expect(&rt, "memory");
+    let mut field = opened(&rt, cards, Vec::new(rt.alloc()), Vec::new(rt.alloc()), 3);
+    let select = b"\x93\x70\x01\x02\x03\x04\x04\x8e\x25";
+    let attrib = b"\x1d\x11\x22\x33\x44\x00\x08\x01\x00\xdb\x35";
     assert!(rt; field.reset().is_ok());
-    for (wave, sent, wanted) in [
-        (Wave::AShort, WUPA.as_slice(), b"\x04\x00".as_slice()),
-        (Wave::B, WUPB.as_slice(), ATQB.as_slice()),
-        (Wave::ABare, b"\x93\x20", b"\x01\x02\x03\x04\x04"),
-        (
-            Wave::A,
-            b"\x93\x70\x01\x02\x03\x04\x04\x8e\x25",
-            b"\x20\xfc\x70",
-        ),
-        (Wave::A, select_a, b""),
-        (Wave::A, b"\xe0\x80\x31\x73", b"\x03\x28\x40\x87\xe5"),
-        (
-            Wave::B,
-            b"\x1d\x11\x22\x33\x44\x00\x08\x01\x00\xdb\x35",
-            b"\x00\x78\xf0",
-        ),
-        (Wave::A, select_a, b"\x02\x6a\x82\x93\x2f"),
-        (Wave::B, select_b, b"\x02\x6a\x82\x4b\x4c"),
-        (Wave::AShort, WUPA.as_slice(), b""),
-        (Wave::A, b"\xc2\xe0\xb4", b"\xc2\xe0\xb4"),
-        (Wave::AShort, WUPA.as_slice(), b"\x04\x00"),
-    ] {
-        exchange(&rt, &mut field, wave, sent, Some(wanted));
-    }
+    exchange(&rt, &mut field, Wave::AShort, &WUPA, Some(b"\x04\x00"));
+    exchange(&rt, &mut field, Wave::B, &WUPB, Some(&ATQB));
+    exchange(
+        &rt,
+        &mut field,
+        Wave::ABare,
+        b"\x93\x20",
+        Some(b"\x01\x02\x03\x04\x04"),
+    );
+    exchange(&rt, &mut field, Wave::A, select, Some(b"\x20\xfc\x70"));
+    exchange(&rt, &mut field, Wave::A, SELECT_A, Some(b""));
+    exchange(
+        &rt,
+        &mut field,
+        Wave::A,
+        b"\xe0\x80\x31\x73",
+        Some(b"\x03\x28\x40\x87\xe5"),
+    );
+    exchange(&rt, &mut field, Wave::B, attrib, Some(b"\x00\x78\xf0"));
+    exchange(
+        &rt,
+        &mut field,
+        Wave::A,
+        SELECT_A,
+        Some(b"\x02\x6a\x82\x93\x2f"),
+    );
+    exchange(
+        &rt,
+        &mut field,
+        Wave::B,
+        SELECT_B,
+        Some(b"\x02\x6a\x82\x4b\x4c"),
+    );
+    exchange(&rt, &mut field, Wave::AShort, &WUPA, Some(b""));
+    exchange(
+        &rt,
+        &mut field,
+        Wave::A,
+        b"\xc2\xe0\xb4",
+        Some(b"\xc2\xe0\xb4"),
+    );
+    exchange(&rt, &mut field, Wave::AShort, &WUPA, Some(b"\x04\x00"));
     assert!(rt; field.reset().is_ok());
-    exchange(&rt, &mut field, Wave::B, select_b, Some(b""));
+    exchange(&rt, &mut field, Wave::B, SELECT_B, Some(b""));
     exchange(&rt, &mut field, Wave::B, &WUPB, Some(&ATQB));
     let [first, second] = field.log().records() else {
         panic!(rt; "two commands");
     };
     assert_eq!(rt; (first.card, second.card), (2, 1));
-    Ok(())
 }
 
 #[test]

@@ -1,12 +1,12 @@
 //! Cards alone in a medium, a medium that fails, and the frames of a round.
-ghost use Rattle.std.specs.Prelude.{IsSome, IsOk};
+ghost use Rattle.std.specs.Prelude.{IsSome};
 
 use ep_base::ROUNDS;
 use poll_activate::{Poll, PollEnd, Rounds, poll, round};
 use rf_frame::{
     Activated, Buf, CardHear, CardKind, FrameBuf, Heard, Medium, RfFailed, RoundEnd, Sent, Wave,
 };
-use std::test::Fail;
+use std::process::Abort;
 use type_a::{ACard, APlan};
 use type_b::{BCard, BPlan};
 
@@ -72,9 +72,9 @@ impl Medium for Cards {
     }
 }
 
-fn card_a(uid: &[u8]) -> Result<ACard, Fail> {
+fn card_a(rt: &impl Abort, uid: &[u8]) -> ACard {
     if uid.len() != 4 && uid.len() != 7 && uid.len() != 10 {
-        return Err("no such card".into());
+        panic!(rt; "no such card");
     }
     let mut plan = APlan {
         uid: Buf::<10>::new(),
@@ -83,8 +83,10 @@ fn card_a(uid: &[u8]) -> Result<ACard, Fail> {
         fwi: 4,
         historical: Buf::<15>::new(),
     };
-    plan.uid.try_extend_from_slice(uid)?;
-    Ok(ACard::open(plan))
+    let Ok(()) = plan.uid.try_extend_from_slice(uid) else {
+        panic!(rt; "the UID is too long");
+    };
+    ACard::open(plan)
 }
 
 fn card_b(iso4: bool) -> BCard {
@@ -97,15 +99,10 @@ fn card_b(iso4: bool) -> BCard {
     })
 }
 
-fn found(kind: CardKind, id: &[u8]) -> Result<Activated, Fail> {
-    let mut bytes = Buf::<10>::new();
-    bytes.try_extend_from_slice(id)?;
-    Ok(Activated {
-        kind,
-        id: bytes,
-        fsc: 256,
-        fwi: 4,
-    })
+/// Compares a card with this one of its kind.
+fn is_found(rt: &impl Abort, card: &Activated, kind: CardKind, id: &[u8]) {
+    assert_eq!(rt; card.id.as_slice(), id);
+    assert_eq!(rt; (card.kind, card.fsc, card.fwi), (kind, 256, 4));
 }
 
 /// A medium with these cards.
@@ -113,59 +110,58 @@ fn with_cards(a: Option<ACard>, b: Option<BCard>) -> Cards {
     Cards { a, b, exchanges: 0 }
 }
 
-#[test]
-fn rounds_with_one_card_of_type_a(rt: HostRuntime) -> Result<(), Fail> {
-    let uids = [
-        (b"\x01\x02\x03\x04".as_slice(), 7),
-        (b"\x04\x11\x22\x33\x44\x55\x66".as_slice(), 9),
-        (b"\x04\x11\x22\x33\x44\x55\x66\x77\x88\x99".as_slice(), 11),
-    ];
-    for (uid, exchanges) in uids {
-        let mut medium = with_cards(Some(card_a(uid)?), None);
-        let card = found(CardKind::A, uid)?;
-        assert_eq!(rt; round(&mut medium, 8), Ok(RoundEnd::Card(card)));
-        assert_eq!(rt; medium.exchanges, exchanges, "{uid:?}");
-    }
-    Ok(())
+/// A round over this medium that ends with this card after so many exchanges.
+fn ends_with(rt: &impl Abort, medium: &mut Cards, kind: CardKind, id: &[u8], exchanges: u32) {
+    let Ok(RoundEnd::Card(card)) = round(medium, 8) else {
+        panic!(rt; "no card");
+    };
+    is_found(rt, &card, kind, id);
+    assert_eq!(rt; medium.exchanges, exchanges, "{id:?}");
+}
+
+/// A round with one card of Type A.
+fn finds(rt: &impl Abort, uid: &[u8], exchanges: u32) {
+    let mut medium = with_cards(Some(card_a(rt, uid)), None);
+    ends_with(rt, &mut medium, CardKind::A, uid, exchanges);
 }
 
 #[test]
-fn rounds_with_one_card_of_type_b(rt: HostRuntime) -> Result<(), Fail> {
+fn rounds_with_one_card_of_type_a(rt: HostRuntime) {
+    finds(&rt, b"\x01\x02\x03\x04", 7);
+    finds(&rt, b"\x04\x11\x22\x33\x44\x55\x66", 9);
+    finds(&rt, b"\x04\x11\x22\x33\x44\x55\x66\x77\x88\x99", 11);
+}
+
+#[test]
+fn rounds_with_one_card_of_type_b(rt: HostRuntime) {
     let mut medium = with_cards(None, Some(card_b(true)));
-    let card = found(CardKind::B, b"\x11\x22\x33\x44")?;
-    assert_eq!(rt; round(&mut medium, 8), Ok(RoundEnd::Card(card)));
-    assert_eq!(rt; medium.exchanges, 3);
+    ends_with(&rt, &mut medium, CardKind::B, b"\x11\x22\x33\x44", 3);
     let mut medium = with_cards(None, Some(card_b(false)));
     assert_eq!(rt; round(&mut medium, 8), Ok(RoundEnd::Unsupported));
     assert_eq!(rt; medium.exchanges, 2);
-    Ok(())
 }
 
-#[test]
-fn polls_nobody(rt: HostRuntime) -> Result<(), Fail> {
-    let mut medium = with_cards(None, None);
+/// Polls until so many exchanges were made and all rounds have ended so, without a card.
+fn polls(rt: &impl Abort, medium: &mut Cards, exchanges: u32, wanted: &RoundEnd) {
     let mut rounds = Rounds::new();
-    assert_eq!(rt; poll(&mut medium, 8, &mut rounds), Err(PollEnd::NoCard));
-    assert_eq!(rt; medium.exchanges, 128);
+    assert_eq!(rt; poll(medium, 8, &mut rounds), Err(PollEnd::NoCard));
+    assert_eq!(rt; medium.exchanges, exchanges);
     assert_eq!(rt; rounds.len(), ROUNDS);
     for end in rounds.as_slice() {
-        assert_eq!(rt; *end, RoundEnd::Empty);
+        assert_eq!(rt; end, wanted);
     }
-    Ok(())
 }
 
 #[test]
-fn polls_cards_of_both_types(rt: HostRuntime) -> Result<(), Fail> {
-    let card = card_a(b"\x01\x02\x03\x04")?;
+fn polls_nobody(rt: HostRuntime) {
+    polls(&rt, &mut with_cards(None, None), 128, &RoundEnd::Empty);
+}
+
+#[test]
+fn polls_cards_of_both_types(rt: HostRuntime) {
+    let card = card_a(&rt, b"\x01\x02\x03\x04");
     let mut medium = with_cards(Some(card), Some(card_b(true)));
-    let mut rounds = Rounds::new();
-    assert_eq!(rt; poll(&mut medium, 8, &mut rounds), Err(PollEnd::NoCard));
-    assert_eq!(rt; medium.exchanges, 192);
-    assert_eq!(rt; rounds.len(), ROUNDS);
-    for end in rounds.as_slice() {
-        assert_eq!(rt; *end, RoundEnd::Collision);
-    }
-    Ok(())
+    polls(&rt, &mut medium, 192, &RoundEnd::Collision);
 }
 
 /// A medium that hears nothing until a card of Type B is there, and fails from a call on.
@@ -220,58 +216,54 @@ fn comes_late(silent: u32, fails: u32) -> Late {
 }
 
 #[test]
-fn polls_until_a_card(rt: HostRuntime) -> Result<(), Fail> {
-    let card = found(CardKind::B, b"\x11\x22\x33\x44")?;
+fn polls_until_a_card(rt: HostRuntime) {
     let mut rounds = Rounds::new();
-    assert_eq!(rt;
-        poll(&mut comes_late(4, 100), 8, &mut rounds),
-        Ok(card.copy())
-    );
+    let Ok(card) = poll(&mut comes_late(4, 100), 8, &mut rounds) else {
+        panic!(rt; "no card");
+    };
+    is_found(&rt, &card, CardKind::B, b"\x11\x22\x33\x44");
     let ends = [RoundEnd::Empty, RoundEnd::Empty, RoundEnd::Card(card)];
     assert_eq!(rt; rounds.as_slice(), ends.as_slice());
-    Ok(())
 }
 
 #[test]
-fn polls_until_a_fault(rt: HostRuntime) -> Result<(), Fail> {
+fn polls_until_a_fault(rt: HostRuntime) {
     let mut medium = comes_late(100, 6);
     let mut rounds = Rounds::new();
     assert_eq!(rt; poll(&mut medium, 8, &mut rounds), Err(PollEnd::Device));
     assert_eq!(rt; rounds.len(), 2);
     assert_eq!(rt; medium.faults, 1);
-    Ok(())
 }
 
 /// One exchange that begins with or without a reset, has this frame, and doesn't end the round.
-fn sends(poll: &mut Poll, medium: &mut Cards, reset: bool, wanted: &[u8]) -> Result<(), Fail>
+fn sends(rt: &impl Abort, poll: &mut Poll, medium: &mut Cards, reset: bool, wanted: &[u8])
     requires { IsSome poll.old.stage }
-    ensures { IsOk result → IsSome poll.new.stage }
+    ensures { IsSome poll.new.stage }
 {
     let ask = poll.ask();
-    if ask.reset != reset || ask.wait != 0 || ask.frame.as_slice() != wanted {
-        return Err("another frame".into());
-    }
-    match medium.send(ask.wave, &ask.frame, 0) {
-        Ok(heard) => match poll.heard(&heard) {
-            None => Ok(()),
-            Some(_) => Err("the round ended".into()),
-        },
-        Err(_) => Err("no exchange".into()),
-    }
+    assert_eq!(rt;
+        (ask.reset, ask.wait, ask.frame.as_slice()),
+        (reset, 0, wanted)
+    );
+    let Ok(heard) = medium.send(ask.wave, &ask.frame, 0) else {
+        panic!(rt; "no exchange");
+    };
+    let None = poll.heard(&heard) else {
+        panic!(rt; "the round ended");
+    };
 }
 
 #[test]
-fn frames_as_sent(rt: HostRuntime) -> Result<(), Fail> {
-    let mut medium = with_cards(Some(card_a(b"\x01\x02\x03\x04")?), None);
+fn frames_as_sent(rt: HostRuntime) {
+    let mut medium = with_cards(Some(card_a(&rt, b"\x01\x02\x03\x04")), None);
     let mut poll = Poll::open(8);
-    sends(&mut poll, &mut medium, true, b"\x52")?;
-    sends(&mut poll, &mut medium, false, b"\x50\x00\x57\xcd")?;
-    sends(&mut poll, &mut medium, false, b"\x05\x00\x08\x39\x73")?;
-    sends(&mut poll, &mut medium, false, b"\x52")?;
-    sends(&mut poll, &mut medium, false, b"\x93\x20")?;
+    sends(&rt, &mut poll, &mut medium, true, b"\x52");
+    sends(&rt, &mut poll, &mut medium, false, b"\x50\x00\x57\xcd");
+    sends(&rt, &mut poll, &mut medium, false, b"\x05\x00\x08\x39\x73");
+    sends(&rt, &mut poll, &mut medium, false, b"\x52");
+    sends(&rt, &mut poll, &mut medium, false, b"\x93\x20");
     let select = b"\x93\x70\x01\x02\x03\x04\x04\x8e\x25";
-    sends(&mut poll, &mut medium, false, select)?;
+    sends(&rt, &mut poll, &mut medium, false, select);
     let rats = poll.ask();
     assert_eq!(rt; rats.frame.as_slice(), b"\xe0\x80\x31\x73".as_slice());
-    Ok(())
 }
