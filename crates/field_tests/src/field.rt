@@ -242,26 +242,15 @@ fn a_card_of_each_type(rt: HostRuntime) {
 }
 
 #[test]
-fn plans_of_type_a(rt: HostRuntime) -> Result<(), Fail> {
-    let cards = vec![in rt.alloc();
-        card_b(rt.alloc(), 1)?,
-        card_a(rt.alloc(), 2, b"\x01\x02\x03\x04")?,
-    ]?;
-    let field = Field::open(
-        rt.alloc(),
-        cards,
-        Vec::new(rt.alloc()),
-        Vec::new(rt.alloc()),
-        1,
-    )
-    .map_err(|_| "memory")?;
+fn plans_of_type_a(rt: HostRuntime) {
+    let cards = vec![in rt.alloc(); card_b(&rt, 1), card_a(&rt, 2, b"\x01\x02\x03\x04")]
+        .ok()
+        .expect(&rt, "memory");
+    let field = opened(&rt, cards, Vec::new(rt.alloc()), Vec::new(rt.alloc()), 1);
     for none in [0, 1, 3, 255] {
         assert!(rt; field.type_a(none).is_none());
     }
-    let Some(plan) = field.type_a(2) else {
-        return Err("no plan".into());
-    };
+    let plan = field.type_a(2).expect(&rt, "a plan");
     assert_eq!(rt; plan.uid.as_slice(), b"\x01\x02\x03\x04".as_slice());
     assert_eq!(rt; plan.sak, 0x20);
-    Ok(())
 }
