@@ -52,15 +52,16 @@ steps = [{send = "80ae8000"}]
 outcome = "approved 03"
 "#;
 
-/// The table of its Combination.
-const COMBINATION: &str = r#"[[combinations]]
+/// The tables of its Combination, of its card, of that card's application, of that application's rule, and of its script,
+/// each after its name.
+const PARTS: &str = r#"
+%% combination
+[[combinations]]
 type = 9
 aid = "a0000000031010"
 kernel = 2
-"#;
-
-/// The table of its card.
-const CARD: &str = r#"[[lanes.transactions.cards]]
+%% card
+[[lanes.transactions.cards]]
 kind = "A"
 uid = "01020304"
 ppse = ["6a82"]
@@ -70,25 +71,19 @@ select = ["6f009000"]
 [[lanes.transactions.cards.apps.rules]]
 prefix = "80a8"
 responses = ["80009000"]
-"#;
-
-/// The table of its card's application.
-const APPLICATION: &str = r#"[[lanes.transactions.cards.apps]]
+%% applications
+[[lanes.transactions.cards.apps]]
 name = "a0000000041010"
 select = ["6f009000"]
 [[lanes.transactions.cards.apps.rules]]
 prefix = "80a8"
 responses = ["80009000"]
-"#;
-
-/// The table of that application's rule.
-const RULE: &str = r#"[[lanes.transactions.cards.apps.rules]]
+%% rules
+[[lanes.transactions.cards.apps.rules]]
 prefix = "80a8"
 responses = ["80009000"]
-"#;
-
-/// The table of its script.
-const SCRIPT: &str = r#"[[lanes.transactions.scripts]]
+%% script
+[[lanes.transactions.scripts]]
 kernel = 3
 steps = [{send = "80ae8000"}]
 outcome = "approved 03"
@@ -96,15 +91,17 @@ outcome = "approved 03"
 
 /// The part of the document that a table of cases names.
 fn part_of<'a>(name: &'a str) -> &'a str {
-    match name {
-        "document" => DOCUMENT,
-        "combination" => COMBINATION,
-        "card" => CARD,
-        "applications" => APPLICATION,
-        "rules" => RULE,
-        "script" => SCRIPT,
-        part => part,
+    if name == "document" {
+        return DOCUMENT;
     }
+    for section in PARTS.split("%% ") {
+        if let Some(rest) = section.strip_prefix(name) {
+            if let Some(part) = rest.strip_prefix('\n') {
+                return part;
+            }
+        }
+    }
+    name
 }
 
 /// A text as it is meant, with its newlines and what stands in it so many times.
@@ -153,28 +150,20 @@ fn end_of(rt: &(impl Abort + AllocGlobal), document: &[u8]) -> Result<String, Fa
     }
 }
 
-/// All tables of cases.
-const TABLES: [&str; 12] = [
-    root::ROOT,
-    root::LANES,
-    combination::COMBINATIONS,
-    transaction::TRANSACTIONS,
-    transaction::CARDS,
-    card::CARD_A,
-    card::CARD_B,
-    application::APPLICATIONS,
-    application::RULES,
-    script::SCRIPTS,
-    script::STEPS,
-    order::ORDER,
-];
-
 #[test]
 fn first_faults(rt: HostRuntime) -> Result<(), Fail> {
-    for table in TABLES {
-        check_table(&rt, table)?;
-    }
-    Ok(())
+    check_table(&rt, root::ROOT)?;
+    check_table(&rt, root::LANES)?;
+    check_table(&rt, combination::COMBINATIONS)?;
+    check_table(&rt, transaction::TRANSACTIONS)?;
+    check_table(&rt, transaction::CARDS)?;
+    check_table(&rt, card::CARD_A)?;
+    check_table(&rt, card::CARD_B)?;
+    check_table(&rt, application::APPLICATIONS)?;
+    check_table(&rt, application::RULES)?;
+    check_table(&rt, script::SCRIPTS)?;
+    check_table(&rt, script::STEPS)?;
+    check_table(&rt, order::ORDER)
 }
 
 /// Reads the document of each row of a table of cases, and compares what it comes to.

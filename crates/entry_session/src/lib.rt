@@ -10,8 +10,6 @@ mod ran;
 mod session;
 mod starting;
 mod steps;
-#[cfg(test)]
-mod tests;
 mod turn;
 mod whole;
 
