@@ -11,8 +11,6 @@ mod rounds;
 mod session;
 mod starting;
 mod steps;
-#[cfg(test)]
-mod tests;
 mod turn;
 mod whole;
 

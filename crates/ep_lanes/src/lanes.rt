@@ -78,6 +78,19 @@ impl<K: Kernels + Drop> Lanes<K> {
         held.begin(prepared, kernels, fsdi, events)
     }
 
+    /// Whether a transaction is open in this lane. In a lane that isn't there none is.
+    pub fn has_open(&self, lane: u8) -> bool
+        ensures { result ≡ has_open (lanes_of K.state K.is_open K.is_fresh self.now) lane }
+    {
+        if lane == 0 {
+            return false;
+        }
+        match self.lanes.get(usize::from(lane) - 1) {
+            Some(held) => held.opened,
+            None => false,
+        }
+    }
+
     /// The lane that makes the next exchange: the turn list's next live lane, and after the list's end the live lanes in
     /// rising order, again and again. `None` exactly where no lane is live.
     pub fn next(&self) -> Option<u8>

@@ -8,8 +8,6 @@ mod lane;
 mod lanes;
 mod order;
 mod probe;
-#[cfg(test)]
-mod tests;
 
 pub use entry_session::{End, EventList};
 pub use exchange::{Exchange, Turned};

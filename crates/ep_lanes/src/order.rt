@@ -18,7 +18,7 @@ pub(crate) struct Upcoming {
 
 impl<K: Kernels + Drop> Lanes<K> {
     /// Whether the lane with this number is live.
-    pub(crate) fn is_live(&self, lane: u8) -> bool
+    pub fn is_live(&self, lane: u8) -> bool
         ensures { result ≡ live_in (lanes_of K.state K.is_open K.is_fresh self.now) lane }
     {
         if lane == 0 {

@@ -42,10 +42,10 @@ pub struct End<'a> {
     pub text: &'a str,
 }
 
-/// What these words leave, where the source and the sink fail at these calls.
+/// What these words leave, each of which comes after a `/`, where the source and the sink fail at these calls.
 pub fn run(
     rt: &HostRuntime,
-    words: &[&str],
+    words: &str,
     document: &[u8],
     source_fails: &[u32],
     sink_fails: &[u32],
@@ -56,14 +56,14 @@ pub fn run(
 /// The same with any probe.
 pub fn probed<P: Probe>(
     rt: &HostRuntime,
-    words: &[&str],
+    words: &str,
     document: &[u8],
     source_fails: &[u32],
     sink_fails: &[u32],
     probe: &mut P,
 ) -> Result<Left, Fail> {
     let mut given = Vec::new(rt.alloc());
-    for word in words {
+    for word in words.split('/').skip(1) {
         given.push(String::from_str(rt.alloc(), word)?)?;
     }
     let bytes = document.to_vec(rt.alloc())?;

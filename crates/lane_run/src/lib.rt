@@ -9,12 +9,8 @@ mod jobs;
 mod laws;
 mod lines;
 mod opening;
-#[cfg(test)]
-mod replay_tests;
 mod replaying;
 mod run;
-#[cfg(test)]
-mod tests;
 mod tracing;
 mod turning;
 mod writing;

@@ -1,6 +1,9 @@
-//! Tests of whole purchases over the radio: a session, a transport over a field of cards, and fates of their frames.
+//! Tests of whole purchases: a session over the perfect channel, and over the radio, with a field of cards and fates of their
+//! frames.
 #![tactic(auto)]
 
+#[cfg(test)]
+mod entry_session_tests;
 #[cfg(test)]
 mod purchase;
 #[cfg(test)]

@@ -85,43 +85,70 @@ impl<'a> Row<'a> {
     }
 }
 
+// The cards of each name.
+const CARDS: &str = r#"
+none |
+A | {kind = 'A', uid = '01020304', IMAGE}
+waits | {kind = 'A', uid = '01020304', IMAGE}
+B | {kind = 'B', pupi = '11223344', IMAGE}
+A+B | {kind = 'A', uid = '01020304', IMAGE}, {kind = 'B', pupi = '11223344', IMAGE}
+A+A | {kind = 'A', uid = '04112233445566', IMAGE}, {kind = 'A', uid = '041122778899aa', IMAGE}
+"#;
+
 // The cards of this name.
 fn cards_of(name: &str) -> Option<&'static str> {
-    match name {
-        "none" => Some(""),
-        "A" | "waits" => Some("{kind = 'A', uid = '01020304', IMAGE}"),
-        "B" => Some("{kind = 'B', pupi = '11223344', IMAGE}"),
-        "A+B" => {
-            Some("{kind = 'A', uid = '01020304', IMAGE}, {kind = 'B', pupi = '11223344', IMAGE}")
+    for row in CARDS.lines() {
+        if let Some((key, cards)) = row.split_once(" |") {
+            if key == name {
+                return Some(cards.trim());
+            }
         }
-        "A+A" => Some(
-            "{kind = 'A', uid = '04112233445566', IMAGE}, {kind = 'A', uid = '041122778899aa', IMAGE}",
-        ),
-        _ => None,
     }
+    None
 }
+
+// The lines of a report, after the name of each group of them.
+const REPORT: &str = "
+%% start
+1.1 start type=00 amount=1000
+1.1 pre 1 aid=a0000000031010 kernel=3 allowed=1 status=0 zero=0 floor=0 cvm=0 ttq=-
+1.1 message 15 Present card
+%% collision
+1.1 message 19 Please present one card only
+%% card
+1.1 card A 01020304
+%% card-of-seven
+1.1 card A 04112233445566
+%% card-b
+1.1 card B 11223344
+%% selections
+1.1 apdu 00a404000e325041592e5359532e444446303100 6f23840e325041592e5359532e4444463031a511bf0c0e610c4f07a00000000310108701019000
+1.1 candidates 1
+1.1 apdu 00a4040007a000000003101000 6f098407a00000000310109000
+1.1 activate 3 combination=1 name=a0000000031010 ttq=- fci=6f098407a0000000031010
+%% again
+1.1 apdu 80a8000002830000 80062000080101009000
+1.1 outcome try-again
+1.1 message 21 Present card again
+%% approval
+1.1 apdu 80a8000002830000 80062000080101009000
+1.1 outcome approved
+1.1 message 03 Approved
+1.1 end done
+%% link
+1.1 end link
+%% nocard
+1.1 end nocard
+";
 
 // The lines of a report that have this name.
 fn lines_of(name: &str) -> Option<&'static str> {
-    match name {
-        "start" => Some(
-            "1.1 start type=00 amount=1000\n1.1 pre 1 aid=a0000000031010 kernel=3 allowed=1 status=0 zero=0 floor=0 cvm=0 ttq=-\n1.1 message 15 Present card\n",
-        ),
-        "collision" => Some("1.1 message 19 Please present one card only\n"),
-        "card" => Some("1.1 card A 01020304\n"),
-        "card-of-seven" => Some("1.1 card A 04112233445566\n"),
-        "card-b" => Some("1.1 card B 11223344\n"),
-        "selections" => Some(
-            "1.1 apdu 00a404000e325041592e5359532e444446303100 6f23840e325041592e5359532e4444463031a511bf0c0e610c4f07a00000000310108701019000\n1.1 candidates 1\n1.1 apdu 00a4040007a000000003101000 6f098407a00000000310109000\n1.1 activate 3 combination=1 name=a0000000031010 ttq=- fci=6f098407a0000000031010\n",
-        ),
-        "again" => Some(
-            "1.1 apdu 80a8000002830000 80062000080101009000\n1.1 outcome try-again\n1.1 message 21 Present card again\n",
-        ),
-        "approval" => Some(
-            "1.1 apdu 80a8000002830000 80062000080101009000\n1.1 outcome approved\n1.1 message 03 Approved\n1.1 end done\n",
-        ),
-        "link" => Some("1.1 end link\n"),
-        "nocard" => Some("1.1 end nocard\n"),
-        _ => None,
+    for section in REPORT.split("%% ") {
+        if let Some(rest) = section.strip_prefix(name) {
+            if let Some(lines) = rest.strip_prefix('\n') {
+                return Some(lines);
+            }
+        }
     }
+    None
 }

@@ -1,16 +1,11 @@
 //! Purchases with no card, with cards of both types, and with several cards.
 
-use super::cases::{Case, RUN};
-use super::purchase::{NO_CARD, OTHER_REPORT};
-
-const AMOUNT: &str = "amount = 1000\n";
-
-const SCRIPTS: &str = "[[lanes.transactions.scripts]]\n";
-
-const UID: &str = "kind = \"A\"\nuid = \"01020304\"\n";
-
-/// The table of the purchase's card.
-const CARD: &str = r#"[[lanes.transactions.cards]]
+pub const CASES: &str = r#"
+%% uid
+kind = "A"
+uid = "01020304"
+%% whole-card
+[[lanes.transactions.cards]]
 kind = "A"
 uid = "01020304"
 ppse = ["6f23840e325041592e5359532e4444463031a511bf0c0e610c4f07a00000000310108701019000"]
@@ -20,10 +15,8 @@ select = ["6f098407a00000000310109000"]
 [[lanes.transactions.cards.apps.rules]]
 prefix = "80a8"
 responses = ["80062000080101009000"]
-"#;
-
-/// A second card of Type A with a directory and an application, before the scripts.
-const SECOND_OF_A: &str = r#"[[lanes.transactions.cards]]
+%% second-of-a
+[[lanes.transactions.cards]]
 kind = "A"
 uid = "041122778899aa"
 ppse = ["6f23840e325041592e5359532e4444463031a511bf0c0e610c4f07a00000000310108701019000"]
@@ -34,30 +27,21 @@ select = ["6f098407a00000000310109000"]
 prefix = "80a8"
 responses = ["80062000080101009000"]
 [[lanes.transactions.scripts]]
-"#;
-
-/// A card of Type B beside the purchase's card, before the scripts.
-const SECOND_OF_B: &str = r#"[[lanes.transactions.cards]]
+%% second-of-b
+[[lanes.transactions.cards]]
 kind = "B"
 pupi = "11223344"
 [[lanes.transactions.scripts]]
-"#;
-
-const FIRST_ALONE: &str = "\
+%% first-alone
 1.1 message 19 Please present one card only
 1.1 card A 04112233445566
-";
-
-const COLLISIONS: &str = "\
+%% collisions
 1.1 start type=00 amount=1000
 1.1 pre 1 aid=a0000000031010 kernel=3 allowed=1 status=0 zero=0 floor=0 cvm=0 ttq=-
 1.1 message 15 Present card
 1.1 message 19 Please present one card only
 1.1 end nocard
-";
-
-/// The purchase with a card of Type B and with its trace.
-const TRACE_OF_B: &str = "\
+%% trace-of-b
 1.1 start type=00 amount=1000
 1.1 pre 1 aid=a0000000031010 kernel=3 allowed=1 status=0 zero=0 floor=0 cvm=0 ttq=-
 1.1 message 15 Present card
@@ -80,63 +64,30 @@ x 1 B c26615 16 =c26615
 1.1 log 1 00a404000e325041592e5359532e444446303100
 1.1 log 1 00a4040007a000000003101000
 1.1 log 1 80a8000002830000
-";
-
-pub const CASES: &[Case] = &[
-    Case {
-        name: "an application of another name",
-        edits: &[("name = \"a0000000031010\"", "name = \"a0000000031011\"")],
-        text: &[OTHER_REPORT],
-        ..RUN
-    },
-    Case {
-        name: "no card in the field",
-        edits: &[
-            (
-                "kernel = 3\n[[lanes]]",
-                "kernel = 3\nlimit = 1001\n[[lanes]]",
-            ),
-            (AMOUNT, "amount = 1000\ncards = []\n"),
-            (CARD, ""),
-        ],
-        text: &[NO_CARD],
-        ..RUN
-    },
-    Case {
-        name: "two cards of Type A",
-        edits: &[
-            (AMOUNT, "amount = 1000\npresence = [[1, 2], [1]]\n"),
-            (UID, "kind = \"A\"\nuid = \"04112233445566\"\n"),
-            (SCRIPTS, SECOND_OF_A),
-        ],
-        changes: &[("1.1 card A 01020304\n", FIRST_ALONE)],
-        ..RUN
-    },
-    Case {
-        name: "cards of both types",
-        edits: &[(SCRIPTS, SECOND_OF_B)],
-        text: &[COLLISIONS],
-        ..RUN
-    },
-    Case {
-        name: "a second card whose answer is lost",
-        edits: &[
-            (AMOUNT, "amount = 1000\nfates = [2, \"- x\"]\n"),
-            (SCRIPTS, SECOND_OF_B),
-        ],
-        ..RUN
-    },
-    Case {
-        name: "a card of Type B",
-        edits: &[(UID, "kind = \"B\"\npupi = \"11223344\"\n")],
-        changes: &[("card A 01020304", "card B 11223344")],
-        ..RUN
-    },
-    Case {
-        name: "the trace of a card of Type B",
-        words: &["run", "trace"],
-        edits: &[(UID, "kind = \"B\"\npupi = \"11223344\"\n")],
-        text: &[TRACE_OF_B],
-        ..RUN
-    },
-];
+%% = an application of another name
+edit name = "a0000000031010" => name = "a0000000031011"
+text <other-report>
+%% = no card in the field
+edit kernel = 3\n[[lanes]] => kernel = 3\nlimit = 1001\n[[lanes]]
+edit amount = 1000\n => amount = 1000\ncards = []\n
+edit <whole-card> =>
+text <no-card>
+%% = two cards of Type A
+edit amount = 1000\n => amount = 1000\npresence = [[1, 2], [1]]\n
+edit <uid> => kind = "A"\nuid = "04112233445566"\n
+edit [[lanes.transactions.scripts]]\n => <second-of-a>
+change 1.1 card A 01020304\n => <first-alone>
+%% = cards of both types
+edit [[lanes.transactions.scripts]]\n => <second-of-b>
+text <collisions>
+%% = a second card whose answer is lost
+edit amount = 1000\n => amount = 1000\nfates = [2, "- x"]\n
+edit [[lanes.transactions.scripts]]\n => <second-of-b>
+%% = a card of Type B
+edit <uid> => kind = "B"\npupi = "11223344"\n
+change card A 01020304 => card B 11223344
+%% = the trace of a card of Type B
+words /run/trace
+edit <uid> => kind = "B"\npupi = "11223344"\n
+text <trace-of-b>
+"#;

@@ -1,16 +1,58 @@
 //! The purchase cut after each of its bytes, and a trace line cut after each of its own.
 
-use super::purchase::{
-    NO_CARD, OTHER_REPORT, PURCHASE, REPORT, UNDIRECTED_REPORT, UNSCRIPTED_REPORT,
-};
+use super::cases::spelled;
+use super::purchase::PURCHASE;
 use super::{End, check, run};
 use std::test::Fail;
 
-/// A piece of the purchase, and what the document up to its end leaves.
-struct Piece {
-    text: &'static str,
-    end: End<'static>,
-}
+/// All pieces of the purchase, each with what the document up to its end leaves: what is written, or the fault that is
+/// said.
+const PIECES: &str = r#"version = 1 => missing at lanes (0)
+\n[[combinations]] => missing at combinations[1].type (0)
+\ntype = 0 => missing at combinations[1].aid (0)
+\naid = "a0000000031010" => missing at combinations[1].kernel (0)
+\nkernel = 3 => missing at lanes (0)
+\n[[lanes]] => missing at lanes[1].transactions (0)
+\n[[lanes.transactions]] => missing at lanes[1].transactions[1].type (0)
+\ntype = 0 => missing at lanes[1].transactions[1].amount (0)
+\namount = 1 => <no-card-of-1>
+0 => <no-card-of-10>
+0 => <no-card-of-100>
+0 => <no-card>
+\n[[lanes.transactions.cards]] => missing at lanes[1].transactions[1].cards[1].kind (0)
+\nkind = "A" => missing at lanes[1].transactions[1].cards[1].uid (0)
+\nuid = "01020304" => <undirected-report>
+\nppse = ["6f23840e325041592e5359532e4444463031a511bf0c0e610c4f07a00000000310108701019000"] => <other-report>
+\n[[lanes.transactions.cards.apps]] => missing at lanes[1].transactions[1].cards[1].apps[1].name (0)
+\nname = "a0000000031010" => missing at lanes[1].transactions[1].cards[1].apps[1].select (0)
+\nselect = ["6f098407a00000000310109000"] => <unscripted-report>
+\n[[lanes.transactions.cards.apps.rules]] => missing at lanes[1].transactions[1].cards[1].apps[1].rules[1].prefix (0)
+\nprefix = "80a8" => missing at lanes[1].transactions[1].cards[1].apps[1].rules[1].responses (0)
+\nresponses = ["80062000080101009000"] => <unscripted-report>
+\n[[lanes.transactions.scripts]] => missing at lanes[1].transactions[1].scripts[1].kernel (0)
+\nkernel = 3 => missing at lanes[1].transactions[1].scripts[1].outcome (0)
+\nsteps = [{send = "80a8000002830000"}] => missing at lanes[1].transactions[1].scripts[1].outcome (0)
+\noutcome = "approved 03" => <report>
+\n => <report>"#;
+
+/// What is written where no card is there, with amounts of 1, of 10 and of 100.
+const SECTIONS: &str = r#"
+%% no-card-of-1
+1.1 start type=00 amount=1
+1.1 pre 1 aid=a0000000031010 kernel=3 allowed=1 status=0 zero=0 floor=0 cvm=0 ttq=-
+1.1 message 15 Present card
+1.1 end nocard
+%% no-card-of-10
+1.1 start type=00 amount=10
+1.1 pre 1 aid=a0000000031010 kernel=3 allowed=1 status=0 zero=0 floor=0 cvm=0 ttq=-
+1.1 message 15 Present card
+1.1 end nocard
+%% no-card-of-100
+1.1 start type=00 amount=100
+1.1 pre 1 aid=a0000000031010 kernel=3 allowed=1 status=0 zero=0 floor=0 cvm=0 ttq=-
+1.1 message 15 Present card
+1.1 end nocard
+"#;
 
 const NOT_TOML: End = End {
     number: 6,
@@ -18,235 +60,16 @@ const NOT_TOML: End = End {
     text: "",
 };
 
-/// A document of which something is missing.
-const BAD: End = End {
-    number: 7,
-    said: "",
-    text: "",
-};
-
-const DONE: End = End {
-    number: 0,
-    said: "",
-    text: REPORT,
-};
-
-/// Where no card is there, with an amount of 1.
-const NO_CARD_OF_1: &str = "\
-1.1 start type=00 amount=1
-1.1 pre 1 aid=a0000000031010 kernel=3 allowed=1 status=0 zero=0 floor=0 cvm=0 ttq=-
-1.1 message 15 Present card
-1.1 end nocard
-";
-
-/// Where no card is there, with an amount of 10.
-const NO_CARD_OF_10: &str = "\
-1.1 start type=00 amount=10
-1.1 pre 1 aid=a0000000031010 kernel=3 allowed=1 status=0 zero=0 floor=0 cvm=0 ttq=-
-1.1 message 15 Present card
-1.1 end nocard
-";
-
-/// Where no card is there, with an amount of 100.
-const NO_CARD_OF_100: &str = "\
-1.1 start type=00 amount=100
-1.1 pre 1 aid=a0000000031010 kernel=3 allowed=1 status=0 zero=0 floor=0 cvm=0 ttq=-
-1.1 message 15 Present card
-1.1 end nocard
-";
-
-/// All pieces of the purchase.
-const PIECES: [Piece; 27] = [
-    Piece {
-        text: "version = 1",
-        end: End {
-            said: "ep_program: bad document: missing at lanes (0)",
-            ..BAD
-        },
-    },
-    Piece {
-        text: "\n[[combinations]]",
-        end: End {
-            said: "ep_program: bad document: missing at combinations[1].type (0)",
-            ..BAD
-        },
-    },
-    Piece {
-        text: "\ntype = 0",
-        end: End {
-            said: "ep_program: bad document: missing at combinations[1].aid (0)",
-            ..BAD
-        },
-    },
-    Piece {
-        text: "\naid = \"a0000000031010\"",
-        end: End {
-            said: "ep_program: bad document: missing at combinations[1].kernel (0)",
-            ..BAD
-        },
-    },
-    Piece {
-        text: "\nkernel = 3",
-        end: End {
-            said: "ep_program: bad document: missing at lanes (0)",
-            ..BAD
-        },
-    },
-    Piece {
-        text: "\n[[lanes]]",
-        end: End {
-            said: "ep_program: bad document: missing at lanes[1].transactions (0)",
-            ..BAD
-        },
-    },
-    Piece {
-        text: "\n[[lanes.transactions]]",
-        end: End {
-            said: "ep_program: bad document: missing at lanes[1].transactions[1].type (0)",
-            ..BAD
-        },
-    },
-    Piece {
-        text: "\ntype = 0",
-        end: End {
-            said: "ep_program: bad document: missing at lanes[1].transactions[1].amount (0)",
-            ..BAD
-        },
-    },
-    Piece {
-        text: "\namount = 1",
-        end: End {
-            text: NO_CARD_OF_1,
-            ..DONE
-        },
-    },
-    Piece {
-        text: "0",
-        end: End {
-            text: NO_CARD_OF_10,
-            ..DONE
-        },
-    },
-    Piece {
-        text: "0",
-        end: End {
-            text: NO_CARD_OF_100,
-            ..DONE
-        },
-    },
-    Piece {
-        text: "0",
-        end: End {
-            text: NO_CARD,
-            ..DONE
-        },
-    },
-    Piece {
-        text: "\n[[lanes.transactions.cards]]",
-        end: End {
-            said: "ep_program: bad document: missing at lanes[1].transactions[1].cards[1].kind (0)",
-            ..BAD
-        },
-    },
-    Piece {
-        text: "\nkind = \"A\"",
-        end: End {
-            said: "ep_program: bad document: missing at lanes[1].transactions[1].cards[1].uid (0)",
-            ..BAD
-        },
-    },
-    Piece {
-        text: "\nuid = \"01020304\"",
-        end: End {
-            text: UNDIRECTED_REPORT,
-            ..DONE
-        },
-    },
-    Piece {
-        text: "\nppse = [\"6f23840e325041592e5359532e4444463031a511bf0c0e610c4f07a00000000310108701019000\"]",
-        end: End {
-            text: OTHER_REPORT,
-            ..DONE
-        },
-    },
-    Piece {
-        text: "\n[[lanes.transactions.cards.apps]]",
-        end: End {
-            said: "ep_program: bad document: missing at lanes[1].transactions[1].cards[1].apps[1].name (0)",
-            ..BAD
-        },
-    },
-    Piece {
-        text: "\nname = \"a0000000031010\"",
-        end: End {
-            said: "ep_program: bad document: missing at lanes[1].transactions[1].cards[1].apps[1].select (0)",
-            ..BAD
-        },
-    },
-    Piece {
-        text: "\nselect = [\"6f098407a00000000310109000\"]",
-        end: End {
-            text: UNSCRIPTED_REPORT,
-            ..DONE
-        },
-    },
-    Piece {
-        text: "\n[[lanes.transactions.cards.apps.rules]]",
-        end: End {
-            said: "ep_program: bad document: missing at lanes[1].transactions[1].cards[1].apps[1].rules[1].prefix (0)",
-            ..BAD
-        },
-    },
-    Piece {
-        text: "\nprefix = \"80a8\"",
-        end: End {
-            said: "ep_program: bad document: missing at lanes[1].transactions[1].cards[1].apps[1].rules[1].responses (0)",
-            ..BAD
-        },
-    },
-    Piece {
-        text: "\nresponses = [\"80062000080101009000\"]",
-        end: End {
-            text: UNSCRIPTED_REPORT,
-            ..DONE
-        },
-    },
-    Piece {
-        text: "\n[[lanes.transactions.scripts]]",
-        end: End {
-            said: "ep_program: bad document: missing at lanes[1].transactions[1].scripts[1].kernel (0)",
-            ..BAD
-        },
-    },
-    Piece {
-        text: "\nkernel = 3",
-        end: End {
-            said: "ep_program: bad document: missing at lanes[1].transactions[1].scripts[1].outcome (0)",
-            ..BAD
-        },
-    },
-    Piece {
-        text: "\nsteps = [{send = \"80a8000002830000\"}]",
-        end: End {
-            said: "ep_program: bad document: missing at lanes[1].transactions[1].scripts[1].outcome (0)",
-            ..BAD
-        },
-    },
-    Piece {
-        text: "\noutcome = \"approved 03\"",
-        end: DONE,
-    },
-    Piece {
-        text: "\n",
-        end: DONE,
-    },
-];
-
 /// The document so far, cut before each byte of this piece. A newline adds nothing, and within a piece there is no TOML.
-fn each_cut(rt: &HostRuntime, so_far: &mut String, before: &End, piece: &str) -> Result<(), Fail> {
+fn each_cut(
+    rt: &HostRuntime,
+    so_far: &mut String,
+    before: &End<'_>,
+    piece: &str,
+) -> Result<(), Fail> {
     let mut end = *before;
     for letter in piece.chars() {
-        let left = run(rt, &["run"], so_far.as_bytes(), &[], &[])?;
+        let left = run(rt, "/run", so_far.as_bytes(), &[], &[])?;
         check(rt, piece, &left, &end)?;
         so_far.push(letter)?;
         if letter != '\n' {
@@ -256,18 +79,43 @@ fn each_cut(rt: &HostRuntime, so_far: &mut String, before: &End, piece: &str) ->
     Ok(())
 }
 
+/// The same, where the document so far leaves what a row says.
+fn each_cut_after(
+    rt: &HostRuntime,
+    so_far: &mut String,
+    before: &str,
+    piece: &str,
+) -> Result<(), Fail> {
+    let piece = spelled(rt, SECTIONS, piece)?;
+    let said = format!(in rt.alloc(); "ep_program: bad document: {before}")?;
+    let text = spelled(rt, SECTIONS, before)?;
+    let end = if before.starts_with('<') {
+        End {
+            number: 0,
+            said: "",
+            text: text.as_str(),
+        }
+    } else {
+        End {
+            number: 7,
+            said: said.as_str(),
+            text: "",
+        }
+    };
+    each_cut(rt, so_far, &end, piece.as_str())
+}
+
 #[test]
 fn each_cut_of_the_purchase(rt: HostRuntime) -> Result<(), Fail> {
     let mut so_far = String::new(rt.alloc());
-    let mut before = End {
-        said: "ep_program: bad document: missing at version (0)",
-        ..BAD
-    };
-    for piece in &PIECES {
-        each_cut(&rt, &mut so_far, &before, piece.text)?;
-        before = piece.end;
+    let mut before = "missing at version (0)";
+    for row in PIECES.lines() {
+        let (piece, end) = row.split_once(" => ").expect(&rt, row);
+        each_cut_after(&rt, &mut so_far, before, piece)?;
+        before = end;
     }
-    let purchase = PURCHASE.concat(rt.alloc())?;
+    assert_eq!(rt; before, "<report>");
+    let purchase = spelled(&rt, SECTIONS, PURCHASE)?;
     assert_eq!(rt; so_far.as_str(), purchase.as_str());
     Ok(())
 }
@@ -276,20 +124,21 @@ fn each_cut_of_the_purchase(rt: HostRuntime) -> Result<(), Fail> {
 #[test]
 fn each_cut_of_a_trace_line(rt: HostRuntime) -> Result<(), Fail> {
     let line = "x 1 A 500057cd 0 -";
-    let purchase = PURCHASE.concat(rt.alloc())?;
+    let purchase = spelled(&rt, SECTIONS, PURCHASE)?;
     for length in 0..line.len() {
         let cut = line.get(..length).ok_or("no cut")?;
         let document = format!(in rt.alloc();
             "trace = [\"x 1 S 52 0 -\", \"{cut}\"]\n{}",
             purchase.as_str()
         )?;
-        let left = run(&rt, &["run"], document.as_bytes(), &[], &[])?;
+        let left = run(&rt, "/run", document.as_bytes(), &[], &[])?;
         let said = format!(in rt.alloc();
             "ep_program: bad document: bad-value at trace[2] ({length})"
         )?;
         let end = End {
+            number: 7,
             said: said.as_str(),
-            ..BAD
+            text: "",
         };
         check(&rt, cut, &left, &end)?;
     }

@@ -1,12 +1,7 @@
 //! Purchases whose kernels ask for another application or for the card again, several purchases, and a usual one.
 
-use super::cases::{Case, RUN};
-use super::purchase::{
-    APPLICATION, CARD, COMBINATION, DIRECTORY, LANE, NO_DIRECTORY, REPORT, SCRIPT,
-    UNSCRIPTED_REPORT, VERSION,
-};
-
-const RESTARTS: &str = "\
+pub const CASES: &str = r#"
+%% restarts
 1.1 start type=00 amount=1000
 1.1 pre 1 aid=a000000003 kernel=3 allowed=1 status=0 zero=0 floor=0 cvm=0 ttq=-
 1.1 message 15 Present card
@@ -33,21 +28,17 @@ const RESTARTS: &str = "\
 1.1 log 1 00a4040009a0000000031010010200
 1.1 log 1 00a404000e325041592e5359532e444446303100
 1.1 log 1 00a4040007a000000003101000
-";
-
-/// The one name of the purchase's card, and the two of another one.
-const ONE_NAME: &str = r#"name = "a0000000031010"
+%% one-name
+name = "a0000000031010"
 select = ["6f098407a00000000310109000"]
-"#;
-
-const TWO_NAMES: &str = r#"name = "a0000000031010"
+%% two-names
+name = "a0000000031010"
 select = ["9000"]
 [[lanes.transactions.cards.apps]]
 name = "a00000000310100102"
 select = ["9000"]
-"#;
-
-const THREE_SCRIPTS: &str = r#"[[lanes.transactions.scripts]]
+%% three-scripts
+[[lanes.transactions.scripts]]
 kernel = 3
 outcome = "select-next"
 [[lanes.transactions.scripts]]
@@ -56,29 +47,7 @@ outcome = "try-again 21"
 [[lanes.transactions.scripts]]
 kernel = 3
 outcome = "approved 03"
-"#;
-
-/// What the lane's second purchase writes.
-pub const SECOND: &str = "\
-1.2 start type=00 amount=1000
-1.2 pre 1 aid=a0000000031010 kernel=3 allowed=1 status=0 zero=0 floor=0 cvm=0 ttq=-
-1.2 message 15 Present card
-1.2 card A 01020304
-1.2 apdu 00a404000e325041592e5359532e444446303100 6f23840e325041592e5359532e4444463031a511bf0c0e610c4f07a00000000310108701019000
-1.2 candidates 1
-1.2 apdu 00a4040007a000000003101000 6f098407a00000000310109000
-1.2 activate 3 combination=1 name=a0000000031010 ttq=- fci=6f098407a0000000031010
-1.2 apdu 80a8000002830000 80062000080101009000
-1.2 outcome approved
-1.2 message 03 Approved
-1.2 end done
-1.2 log 1 00a404000e325041592e5359532e444446303100
-1.2 log 1 00a4040007a000000003101000
-1.2 log 1 80a8000002830000
-";
-
-/// The same with a card that has no directory.
-const SECOND_UNDIRECTED: &str = "\
+%% second-undirected
 1.2 start type=00 amount=1000
 1.2 pre 1 aid=a0000000031010 kernel=3 allowed=1 status=0 zero=0 floor=0 cvm=0 ttq=-
 1.2 message 15 Present card
@@ -89,10 +58,8 @@ const SECOND_UNDIRECTED: &str = "\
 1.2 message 1c Insert, swipe or try another card
 1.2 end done
 1.2 log 1 00a404000e325041592e5359532e444446303100
-";
+%% usual
 
-/// A purchase of 25.00 with two schemes, a card with a UID of seven bytes, and a kernel that asks to go online.
-const USUAL: &str = r#"
 version = 1
 [[combinations]]
 type = 0
@@ -131,9 +98,7 @@ responses = ["70045f3401019000"]
 kernel = 3
 steps = [{send = "80a8000006830436804000" }, {send = "00b2010c00"}]
 outcome = "online"
-"#;
-
-const USUAL_REPORT: &str = "\
+%% usual-report
 1.1 start type=00 amount=2500
 1.1 pre 1 aid=a0000000041010 kernel=2 allowed=1 status=0 zero=0 floor=1 cvm=0 ttq=-
 1.1 pre 2 aid=a0000000031010 kernel=3 allowed=1 status=0 zero=0 floor=1 cvm=0 ttq=36804000
@@ -151,81 +116,26 @@ const USUAL_REPORT: &str = "\
 1.1 log 1 00a4040007a000000003101000
 1.1 log 1 80a8000006830436804000
 1.1 log 1 00b2010c00
-";
-
-pub const CASES: &[Case] = &[
-    Case {
-        name: "the next application and the card again",
-        edits: &[
-            ("aid = \"a0000000031010\"", "aid = \"a000000003\""),
-            (
-                "6f23840e325041592e5359532e4444463031a511bf0c0e610c4f07a00000000310108701019000",
-                "6f2d840e325041592e5359532e4444463031a51bbf0c1861094f07a0000000031010610b4f09a000000003101001029000",
-            ),
-            (ONE_NAME, TWO_NAMES),
-            (SCRIPT, THREE_SCRIPTS),
-        ],
-        text: &[RESTARTS],
-        ..RUN
-    },
-    Case {
-        name: "a kernel without a script",
-        edits: &[(SCRIPT, "")],
-        text: &[UNSCRIPTED_REPORT],
-        ..RUN
-    },
-    Case {
-        name: "a status word that isn't wanted",
-        edits: &[(
-            "{send = \"80a8000002830000\"}",
-            "{send = \"80a8000002830000\", want = \"6283\", other = \"declined 07\"}",
-        )],
-        changes: &[
-            ("outcome approved", "outcome declined"),
-            ("message 03 Approved", "message 07 Not authorised"),
-        ],
-        ..RUN
-    },
-    Case {
-        name: "two purchases",
-        document: &[
-            VERSION,
-            COMBINATION,
-            LANE,
-            CARD,
-            DIRECTORY,
-            APPLICATION,
-            SCRIPT,
-            CARD,
-            DIRECTORY,
-            APPLICATION,
-            SCRIPT,
-        ],
-        text: &[REPORT, SECOND],
-        ..RUN
-    },
-    Case {
-        name: "a second card without a directory",
-        document: &[
-            VERSION,
-            COMBINATION,
-            LANE,
-            CARD,
-            DIRECTORY,
-            APPLICATION,
-            SCRIPT,
-            CARD,
-            NO_DIRECTORY,
-            APPLICATION,
-            SCRIPT,
-        ],
-        text: &[REPORT, SECOND_UNDIRECTED],
-        ..RUN
-    },
-    Case {
-        name: "a usual purchase",
-        document: &[USUAL],
-        text: &[USUAL_REPORT],
-        ..RUN
-    },
-];
+%% = the next application and the card again
+edit aid = "a0000000031010" => aid = "a000000003"
+edit 6f23840e325041592e5359532e4444463031a511bf0c0e610c4f07a00000000310108701019000 => 6f2d840e325041592e5359532e4444463031a51bbf0c1861094f07a0000000031010610b4f09a000000003101001029000
+edit <one-name> => <two-names>
+edit <script> => <three-scripts>
+text <restarts>
+%% = a kernel without a script
+edit <script> =>
+text <unscripted-report>
+%% = a status word that isn't wanted
+edit {send = "80a8000002830000"} => {send = "80a8000002830000", want = "6283", other = "declined 07"}
+change outcome approved => outcome declined
+change message 03 Approved => message 07 Not authorised
+%% = two purchases
+document <version><combination><lane><card><directory><application><script><card><directory><application><script>
+text <report><second-purchase>
+%% = a second card without a directory
+document <version><combination><lane><card><directory><application><script><card><no-directory><application><script>
+text <report><second-undirected>
+%% = a usual purchase
+document <usual>
+text <usual-report>
+"#;

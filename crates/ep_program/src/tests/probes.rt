@@ -1,6 +1,6 @@
 //! Two lanes and a probe that alters what is heard.
 
-use super::turns::BY_TURNS;
+use super::cases::spelled;
 use super::{End, check, probed};
 use ep_lanes::{Ask, Heard, Probe};
 use std::test::Fail;
@@ -34,6 +34,10 @@ impl Probe for Deaf {
     }
 }
 
+/// Two lanes by a turn list, each with a purchase whose card has no directory.
+const BY_TURNS: &str =
+    r"<version>turns = [1, 1, 2, 1]\n<combination><lane><card><no-directory><application><script><lane><card><no-directory><application><script>";
+
 /// What two lanes write where the first one's eighth, ninth and tenth exchange are heard as silence.
 const SILENCED: &str = "\
 1.1 start type=00 amount=1000
@@ -56,9 +60,9 @@ const SILENCED: &str = "\
 
 #[test]
 fn a_probe_hears_all_lanes(rt: HostRuntime) -> Result<(), Fail> {
-    let document = BY_TURNS.concat(rt.alloc())?;
+    let document = spelled(&rt, "", BY_TURNS)?;
     let mut deaf = Deaf { left: 20 };
-    let left = probed(&rt, &["run"], document.as_bytes(), &[], &[], &mut deaf)?;
+    let left = probed(&rt, "/run", document.as_bytes(), &[], &[], &mut deaf)?;
     assert_eq!(rt; deaf.left, 1);
     let end = End {
         number: 0,

@@ -1,66 +1,45 @@
 //! A purchase of 10.00 with one Combination, one card and one kernel that approves: its document in parts, and its texts.
 
-pub const VERSION: &str = "version = 1\n";
+/// Its document.
+pub const PURCHASE: &str = "<version><combination><lane><card><directory><application><script>";
 
-pub const COMBINATION: &str = r#"[[combinations]]
+/// The parts of its document and of others, and what is written: whole, its first two lines, where no card is there, where
+/// the card has an application of another name or none, where it has no directory, where the kernel has no script, with its
+/// exchanges, and by a lane's second purchase.
+pub const PARTS: &str = r#"
+%% version
+version = 1
+%% combination
+[[combinations]]
 type = 0
 aid = "a0000000031010"
 kernel = 3
-"#;
-
-pub const LANE: &str = "[[lanes]]\n";
-
-/// A transaction up to the identifier of its card.
-pub const CARD: &str = r#"[[lanes.transactions]]
+%% lane
+[[lanes]]
+%% card
+[[lanes.transactions]]
 type = 0
 amount = 1000
 [[lanes.transactions.cards]]
 kind = "A"
 uid = "01020304"
-"#;
-
-pub const DIRECTORY: &str =
-    "ppse = [\"6f23840e325041592e5359532e4444463031a511bf0c0e610c4f07a00000000310108701019000\"]\n";
-
-pub const NO_DIRECTORY: &str = "ppse = []\n";
-
-/// The card's application, and the kernel's script.
-pub const APPLICATION: &str = r#"[[lanes.transactions.cards.apps]]
+%% directory
+ppse = ["6f23840e325041592e5359532e4444463031a511bf0c0e610c4f07a00000000310108701019000"]
+%% no-directory
+ppse = []
+%% application
+[[lanes.transactions.cards.apps]]
 name = "a0000000031010"
 select = ["6f098407a00000000310109000"]
 [[lanes.transactions.cards.apps.rules]]
 prefix = "80a8"
 responses = ["80062000080101009000"]
-"#;
-
-pub const SCRIPT: &str = r#"[[lanes.transactions.scripts]]
+%% script
+[[lanes.transactions.scripts]]
 kernel = 3
 steps = [{send = "80a8000002830000"}]
 outcome = "approved 03"
-"#;
-
-pub const PURCHASE: &[&str] = &[
-    VERSION,
-    COMBINATION,
-    LANE,
-    CARD,
-    DIRECTORY,
-    APPLICATION,
-    SCRIPT,
-];
-
-/// The same with a card that has no directory.
-pub const UNDIRECTED: &[&str] = &[
-    VERSION,
-    COMBINATION,
-    LANE,
-    CARD,
-    NO_DIRECTORY,
-    APPLICATION,
-    SCRIPT,
-];
-
-pub const REPORT: &str = "\
+%% report
 1.1 start type=00 amount=1000
 1.1 pre 1 aid=a0000000031010 kernel=3 allowed=1 status=0 zero=0 floor=0 cvm=0 ttq=-
 1.1 message 15 Present card
@@ -76,24 +55,15 @@ pub const REPORT: &str = "\
 1.1 log 1 00a404000e325041592e5359532e444446303100
 1.1 log 1 00a4040007a000000003101000
 1.1 log 1 80a8000002830000
-";
-
-/// Its first two lines.
-pub const PREPARED: &str = "\
+%% prepared
 1.1 start type=00 amount=1000
 1.1 pre 1 aid=a0000000031010 kernel=3 allowed=1 status=0 zero=0 floor=0 cvm=0 ttq=-
-";
-
-/// What is written before a card is found, and where none is.
-pub const NO_CARD: &str = "\
+%% no-card
 1.1 start type=00 amount=1000
 1.1 pre 1 aid=a0000000031010 kernel=3 allowed=1 status=0 zero=0 floor=0 cvm=0 ttq=-
 1.1 message 15 Present card
 1.1 end nocard
-";
-
-/// Where the card has an application of another name, or none.
-pub const OTHER_REPORT: &str = "\
+%% other-report
 1.1 start type=00 amount=1000
 1.1 pre 1 aid=a0000000031010 kernel=3 allowed=1 status=0 zero=0 floor=0 cvm=0 ttq=-
 1.1 message 15 Present card
@@ -106,10 +76,7 @@ pub const OTHER_REPORT: &str = "\
 1.1 end done
 1.1 log 1 00a404000e325041592e5359532e444446303100
 1.1 log 1 00a4040007a000000003101000
-";
-
-/// Where the card has no directory.
-pub const UNDIRECTED_REPORT: &str = "\
+%% undirected-report
 1.1 start type=00 amount=1000
 1.1 pre 1 aid=a0000000031010 kernel=3 allowed=1 status=0 zero=0 floor=0 cvm=0 ttq=-
 1.1 message 15 Present card
@@ -120,10 +87,7 @@ pub const UNDIRECTED_REPORT: &str = "\
 1.1 message 1c Insert, swipe or try another card
 1.1 end done
 1.1 log 1 00a404000e325041592e5359532e444446303100
-";
-
-/// Where the kernel has no script.
-pub const UNSCRIPTED_REPORT: &str = "\
+%% unscripted-report
 1.1 start type=00 amount=1000
 1.1 pre 1 aid=a0000000031010 kernel=3 allowed=1 status=0 zero=0 floor=0 cvm=0 ttq=-
 1.1 message 15 Present card
@@ -136,4 +100,47 @@ pub const UNSCRIPTED_REPORT: &str = "\
 1.1 end done
 1.1 log 1 00a404000e325041592e5359532e444446303100
 1.1 log 1 00a4040007a000000003101000
-";
+%% traced
+1.1 start type=00 amount=1000
+1.1 pre 1 aid=a0000000031010 kernel=3 allowed=1 status=0 zero=0 floor=0 cvm=0 ttq=-
+1.1 message 15 Present card
+x 1 S 52 0 =0400
+x 1 A 500057cd 0 -
+x 1 B 0500083973 0 -
+x 1 S 52 0 =0400
+x 1 N 9320 0 =0102030404
+x 1 A 937001020304048e25 0 =20fc70
+x 1 A e0803173 0 =03284087e5
+1.1 card A 01020304
+x 1 A 0200a404000e325041592e5359532e444446303100e042 16 =026f23840e325041592e5359532e4444463031a511bf0c0e610c4f07a000000003101087010190004bb3
+1.1 apdu 00a404000e325041592e5359532e444446303100 6f23840e325041592e5359532e4444463031a511bf0c0e610c4f07a00000000310108701019000
+1.1 candidates 1
+x 1 A 0300a4040007a000000003101000bc41 16 =036f098407a00000000310109000452b
+1.1 apdu 00a4040007a000000003101000 6f098407a00000000310109000
+1.1 activate 3 combination=1 name=a0000000031010 ttq=- fci=6f098407a0000000031010
+x 1 A 0280a8000002830000182f 16 =02800620000801010090005a6c
+1.1 apdu 80a8000002830000 80062000080101009000
+1.1 outcome approved
+1.1 message 03 Approved
+x 1 A c2e0b4 16 =c2e0b4
+1.1 end done
+1.1 log 1 00a404000e325041592e5359532e444446303100
+1.1 log 1 00a4040007a000000003101000
+1.1 log 1 80a8000002830000
+%% second-purchase
+1.2 start type=00 amount=1000
+1.2 pre 1 aid=a0000000031010 kernel=3 allowed=1 status=0 zero=0 floor=0 cvm=0 ttq=-
+1.2 message 15 Present card
+1.2 card A 01020304
+1.2 apdu 00a404000e325041592e5359532e444446303100 6f23840e325041592e5359532e4444463031a511bf0c0e610c4f07a00000000310108701019000
+1.2 candidates 1
+1.2 apdu 00a4040007a000000003101000 6f098407a00000000310109000
+1.2 activate 3 combination=1 name=a0000000031010 ttq=- fci=6f098407a0000000031010
+1.2 apdu 80a8000002830000 80062000080101009000
+1.2 outcome approved
+1.2 message 03 Approved
+1.2 end done
+1.2 log 1 00a404000e325041592e5359532e444446303100
+1.2 log 1 00a4040007a000000003101000
+1.2 log 1 80a8000002830000
+"#;

@@ -1,50 +1,13 @@
 //! The purchase and two lanes in each form of words: with their exchanges, without them, and against them.
 
-use super::cases::{Case, RUN};
-use super::purchase::{
-    APPLICATION, CARD, COMBINATION, DIRECTORY, LANE, NO_DIRECTORY, REPORT, SCRIPT, UNDIRECTED,
-    VERSION,
-};
-
-/// The purchase with its exchanges.
-pub const TRACED: &str = "\
-1.1 start type=00 amount=1000
-1.1 pre 1 aid=a0000000031010 kernel=3 allowed=1 status=0 zero=0 floor=0 cvm=0 ttq=-
-1.1 message 15 Present card
-x 1 S 52 0 =0400
-x 1 A 500057cd 0 -
-x 1 B 0500083973 0 -
-x 1 S 52 0 =0400
-x 1 N 9320 0 =0102030404
-x 1 A 937001020304048e25 0 =20fc70
-x 1 A e0803173 0 =03284087e5
-1.1 card A 01020304
-x 1 A 0200a404000e325041592e5359532e444446303100e042 16 =026f23840e325041592e5359532e4444463031a511bf0c0e610c4f07a000000003101087010190004bb3
-1.1 apdu 00a404000e325041592e5359532e444446303100 6f23840e325041592e5359532e4444463031a511bf0c0e610c4f07a00000000310108701019000
-1.1 candidates 1
-x 1 A 0300a4040007a000000003101000bc41 16 =036f098407a00000000310109000452b
-1.1 apdu 00a4040007a000000003101000 6f098407a00000000310109000
-1.1 activate 3 combination=1 name=a0000000031010 ttq=- fci=6f098407a0000000031010
-x 1 A 0280a8000002830000182f 16 =02800620000801010090005a6c
-1.1 apdu 80a8000002830000 80062000080101009000
-1.1 outcome approved
-1.1 message 03 Approved
-x 1 A c2e0b4 16 =c2e0b4
-1.1 end done
+/// The purchase in each form of words.
+pub const ONE_LANE: &str = r#"
+%% log
 1.1 log 1 00a404000e325041592e5359532e444446303100
 1.1 log 1 00a4040007a000000003101000
 1.1 log 1 80a8000002830000
-";
-
-/// Its log.
-const LOG: &str = "\
-1.1 log 1 00a404000e325041592e5359532e444446303100
-1.1 log 1 00a4040007a000000003101000
-1.1 log 1 80a8000002830000
-";
-
-/// Its exchanges.
-const TRACE: &str = r#"trace = [
+%% trace
+trace = [
 "x 1 S 52 0 =0400",
 "x 1 A 500057cd 0 -",
 "x 1 B 0500083973 0 -",
@@ -57,55 +20,19 @@ const TRACE: &str = r#"trace = [
 "x 1 A 0280a8000002830000182f 16 =02800620000801010090005a6c",
 "x 1 A c2e0b4 16 =c2e0b4",
 ]
+%% = the purchase
+%% = the purchase and its exchanges
+words /run/trace
+text <traced>
+%% = the purchase against its exchanges
+words /replay
+document <version><trace><combination><lane><card><directory><application><script>
+change <log> =>
 "#;
 
-/// The purchase in each form of words.
-pub const ONE_LANE: &[Case] = &[
-    RUN,
-    Case {
-        name: "the purchase and its exchanges",
-        words: &["run", "trace"],
-        text: &[TRACED],
-        ..RUN
-    },
-    Case {
-        name: "the purchase against its exchanges",
-        words: &["replay"],
-        document: &[
-            VERSION,
-            TRACE,
-            COMBINATION,
-            LANE,
-            CARD,
-            DIRECTORY,
-            APPLICATION,
-            SCRIPT,
-        ],
-        changes: &[(LOG, "")],
-        ..RUN
-    },
-];
-
-const TURNS: &str = "turns = [1, 1, 2, 1]\n";
-
-/// Two lanes by that turn list, each with a purchase whose card has no directory.
-pub const BY_TURNS: &[&str] = &[
-    VERSION,
-    TURNS,
-    COMBINATION,
-    LANE,
-    CARD,
-    NO_DIRECTORY,
-    APPLICATION,
-    SCRIPT,
-    LANE,
-    CARD,
-    NO_DIRECTORY,
-    APPLICATION,
-    SCRIPT,
-];
-
-const REPORT_BY_TURNS: &str = "\
+/// Two lanes by a turn list in each form of words.
+pub const TWO_LANES: &str = r#"
+%% report-by-turns
 1.1 start type=00 amount=1000
 1.1 pre 1 aid=a0000000031010 kernel=3 allowed=1 status=0 zero=0 floor=0 cvm=0 ttq=-
 1.1 message 15 Present card
@@ -126,9 +53,7 @@ const REPORT_BY_TURNS: &str = "\
 2.1 message 1c Insert, swipe or try another card
 2.1 end done
 2.1 log 1 00a404000e325041592e5359532e444446303100
-";
-
-const TRACED_BY_TURNS: &str = "\
+%% traced-by-turns
 1.1 start type=00 amount=1000
 1.1 pre 1 aid=a0000000031010 kernel=3 allowed=1 status=0 zero=0 floor=0 cvm=0 ttq=-
 1.1 message 15 Present card
@@ -167,9 +92,8 @@ x 2 A 0200a404000e325041592e5359532e444446303100e042 16 =026a82932f
 x 2 A c2e0b4 16 =c2e0b4
 2.1 end done
 2.1 log 1 00a404000e325041592e5359532e444446303100
-";
-
-const TRACE_BY_TURNS: &str = r#"trace = [
+%% trace-by-turns
+trace = [
 "x 1 S 52 0 =0400",
 "x 1 A 500057cd 0 -",
 "x 2 S 52 0 =0400",
@@ -189,66 +113,32 @@ const TRACE_BY_TURNS: &str = r#"trace = [
 "x 2 A 0200a404000e325041592e5359532e444446303100e042 16 =026a82932f",
 "x 2 A c2e0b4 16 =c2e0b4",
 ]
+%% = two lanes
+document <version>turns = [1, 1, 2, 1]\n<combination><lane><card><no-directory><application><script><lane><card><no-directory><application><script>
+text <report-by-turns>
+%% = two lanes and their exchanges
+words /run/trace
+document <version>turns = [1, 1, 2, 1]\n<combination><lane><card><no-directory><application><script><lane><card><no-directory><application><script>
+text <traced-by-turns>
+%% = two lanes against their exchanges
+words /replay
+document <version>turns = [1, 1, 2, 1]\n<trace-by-turns><combination><lane><card><no-directory><application><script><lane><card><no-directory><application><script>
+text <report-by-turns>
+change 1.1 log 1 00a404000e325041592e5359532e444446303100\n =>
+change 2.1 log 1 00a404000e325041592e5359532e444446303100\n =>
 "#;
 
-/// Two lanes by a turn list in each form of words.
-pub const TWO_LANES: &[Case] = &[
-    Case {
-        name: "two lanes",
-        document: BY_TURNS,
-        text: &[REPORT_BY_TURNS],
-        ..RUN
-    },
-    Case {
-        name: "two lanes and their exchanges",
-        words: &["run", "trace"],
-        document: BY_TURNS,
-        text: &[TRACED_BY_TURNS],
-        ..RUN
-    },
-    Case {
-        name: "two lanes against their exchanges",
-        words: &["replay"],
-        document: &[
-            VERSION,
-            TURNS,
-            TRACE_BY_TURNS,
-            COMBINATION,
-            LANE,
-            CARD,
-            NO_DIRECTORY,
-            APPLICATION,
-            SCRIPT,
-            LANE,
-            CARD,
-            NO_DIRECTORY,
-            APPLICATION,
-            SCRIPT,
-        ],
-        text: &[REPORT_BY_TURNS],
-        changes: &[
-            ("1.1 log 1 00a404000e325041592e5359532e444446303100\n", ""),
-            ("2.1 log 1 00a404000e325041592e5359532e444446303100\n", ""),
-        ],
-        ..RUN
-    },
-];
-
-/// What each lane writes before its first exchange.
-const FIRST_OPENED: &str = "\
+/// Purchases without a directory, and a lane that is over.
+pub const CASES: &str = r#"
+%% first-opened
 1.1 start type=00 amount=1000
 1.1 pre 1 aid=a0000000031010 kernel=3 allowed=1 status=0 zero=0 floor=0 cvm=0 ttq=-
 1.1 message 15 Present card
-";
-
-const SECOND_OPENED: &str = "\
+%% second-opened
 2.1 start type=00 amount=1000
 2.1 pre 1 aid=a0000000031010 kernel=3 allowed=1 status=0 zero=0 floor=0 cvm=0 ttq=-
 2.1 message 15 Present card
-";
-
-/// What each lane writes then.
-const FIRST_EVENTS: &str = "\
+%% first-events
 1.1 card A 01020304
 1.1 apdu 00a404000e325041592e5359532e444446303100 6a82
 1.1 candidates 0
@@ -256,9 +146,7 @@ const FIRST_EVENTS: &str = "\
 1.1 message 1c Insert, swipe or try another card
 1.1 end done
 1.1 log 1 00a404000e325041592e5359532e444446303100
-";
-
-const SECOND_EVENTS: &str = "\
+%% second-events
 2.1 card A 01020304
 2.1 apdu 00a404000e325041592e5359532e444446303100 6a82
 2.1 candidates 0
@@ -266,10 +154,7 @@ const SECOND_EVENTS: &str = "\
 2.1 message 1c Insert, swipe or try another card
 2.1 end done
 2.1 log 1 00a404000e325041592e5359532e444446303100
-";
-
-/// The same with its exchanges.
-const FIRST_TRACED: &str = "\
+%% first-traced
 x 1 S 52 0 =0400
 x 1 A 500057cd 0 -
 x 1 B 0500083973 0 -
@@ -286,9 +171,7 @@ x 1 A 0200a404000e325041592e5359532e444446303100e042 16 =026a82932f
 x 1 A c2e0b4 16 =c2e0b4
 1.1 end done
 1.1 log 1 00a404000e325041592e5359532e444446303100
-";
-
-const SECOND_TRACED: &str = "\
+%% second-traced
 x 2 S 52 0 =0400
 x 2 A 500057cd 0 -
 x 2 B 0500083973 0 -
@@ -305,41 +188,24 @@ x 2 A 0200a404000e325041592e5359532e444446303100e042 16 =026a82932f
 x 2 A c2e0b4 16 =c2e0b4
 2.1 end done
 2.1 log 1 00a404000e325041592e5359532e444446303100
-";
-
-/// Two lanes, of which the first one is over when its last turn comes.
-const SKIPPED: &str = "turns = [1, 1, 1, 1, 1, 1, 1, 1, 1, 1, 2]\n";
-
-pub const CASES: &[Case] = &[
-    Case {
-        name: "a purchase without a directory and its exchanges",
-        words: &["run", "trace"],
-        document: UNDIRECTED,
-        text: &[FIRST_OPENED, FIRST_TRACED],
-        ..RUN
-    },
-    Case {
-        name: "a purchase whose directory is cut short and its exchanges",
-        words: &["run", "trace"],
-        document: UNDIRECTED,
-        edits: &[(NO_DIRECTORY, "ppse = [\"6f9000\"]\n")],
-        text: &[FIRST_OPENED, FIRST_TRACED],
-        changes: &[("=026a82932f", "=026f9000a139"), (" 6a82\n", " 6f9000\n")],
-        ..RUN
-    },
-    Case {
-        name: "a lane that is over is skipped",
-        document: BY_TURNS,
-        edits: &[(TURNS, SKIPPED)],
-        text: &[FIRST_OPENED, SECOND_OPENED, FIRST_EVENTS, SECOND_EVENTS],
-        ..RUN
-    },
-    Case {
-        name: "a lane that is over is skipped, and the exchanges",
-        words: &["run", "trace"],
-        document: BY_TURNS,
-        edits: &[(TURNS, SKIPPED)],
-        text: &[FIRST_OPENED, SECOND_OPENED, FIRST_TRACED, SECOND_TRACED],
-        ..RUN
-    },
-];
+%% = a purchase without a directory and its exchanges
+words /run/trace
+document <version><combination><lane><card><no-directory><application><script>
+text <first-opened><first-traced>
+%% = a purchase whose directory is cut short and its exchanges
+words /run/trace
+document <version><combination><lane><card><no-directory><application><script>
+edit <no-directory> => ppse = ["6f9000"]\n
+text <first-opened><first-traced>
+change =026a82932f => =026f9000a139
+change  6a82\n =>  6f9000\n
+%% = a lane that is over is skipped
+document <version>turns = [1, 1, 2, 1]\n<combination><lane><card><no-directory><application><script><lane><card><no-directory><application><script>
+edit turns = [1, 1, 2, 1]\n => turns = [1, 1, 1, 1, 1, 1, 1, 1, 1, 1, 2]\n
+text <first-opened><second-opened><first-events><second-events>
+%% = a lane that is over is skipped, and the exchanges
+words /run/trace
+document <version>turns = [1, 1, 2, 1]\n<combination><lane><card><no-directory><application><script><lane><card><no-directory><application><script>
+edit turns = [1, 1, 2, 1]\n => turns = [1, 1, 1, 1, 1, 1, 1, 1, 1, 1, 2]\n
+text <first-opened><second-opened><first-traced><second-traced>
+"#;

@@ -7,13 +7,12 @@ ghost use Rattle.rf_field.specs.Plans.{PlanFits};
 ghost use Rattle.lane_run.specs.Reports.{IsFew, IsNewWork};
 ghost use Rattle.ep_lanes.specs.Scripted.{held_of};
 
-use crate::jobs::{LaneJobs, works_of};
-use crate::report_lanes;
 use acquirer_config::{Combination, Config};
 use arrayvec::ArrayVec;
 use card_image::CardImage;
 use ep_base::{Buf, MemorySink};
 use ep_lanes::{Lanes, Open};
+use lane_run::{LaneJobs, report_lanes, works_of};
 use rf_field::{APlan, CardPlan};
 use scenario::{Field, Job, Scripts};
 use std::alloc::Global;

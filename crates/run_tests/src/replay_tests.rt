@@ -2,11 +2,11 @@
 //! of a mismatch, and that memory can be had.
 ghost use Rattle.std.specs.Prelude.{◌≡◌, ◌≤◌, All, IfOk, length};
 
-use crate::tests::{REPORT, TRACED, combination, works};
-use crate::{ReplayEnd, replay_lanes};
+use crate::lane_run_tests::{REPORT, TRACED, combination, works};
 use acquirer_config::Config;
 use ep_base::{Line, MemorySink};
 use ep_lanes::Lanes;
+use lane_run::{ReplayEnd, replay_lanes};
 use scenario::Scripts;
 use std::alloc::AllocGlobal;
 use std::process::Abort;

@@ -7,7 +7,7 @@ use Rattle.ep_rules.specs.EntryPoint.Kernel.{Script, Scripted}
 use Rattle.ep_rules.specs.EntryPoint.KernelCommands.{ScriptedSends}
 use Rattle.scenario.specs.Scenario.{Work}
 use Rattle.lane_run.specs.Reports.{IsFew}
-use Rattle.lane_run.proofs.tests.job.Goals as goal
+use Rattle.run_tests.proofs.lane_run_tests.job.Goals as goal
 
 -- no script, and none runs
 abbrev nothing : Scripted

@@ -4,13 +4,12 @@ ghost use Rattle.ep_rules.specs.EntryPoint.Configuration.{IsCombination};
 ghost use Rattle.ep_lanes.specs.Lanes.{has_open, is_live, lanes_of};
 ghost use Rattle.rf_field.specs.Plans.{PlanFits};
 
-use crate::holding::Lanes;
-use crate::{Ask, End, EventList, Heard, Medium, Open, Probe, RfFailed, Turned};
 use acquirer_config::{Combination, Config};
 use arrayvec::ArrayVec;
 use card_image::CardImage;
 use ep_base::{Buf, FrameBuf, Wave};
-use kernel_port::{Kernels, Scripts};
+use ep_lanes::{Ask, End, EventList, Heard, Lanes, Medium, Open, Probe, RfFailed, Turned};
+use kernel_port::Scripts;
 use pre_processing::{Prepared, prepare};
 use rf_field::{APlan, CardPlan, Field};
 use std::alloc::Global;
@@ -18,17 +17,8 @@ use std::process::Abort;
 use std::test::Fail;
 
 // What the reader sends in a purchase with a card that has no directory, frame by frame.
-const SENT: [&[u8]; 9] = [
-    b"\x52",
-    b"\x50\x00\x57\xcd",
-    b"\x05\x00\x08\x39\x73",
-    b"\x52",
-    b"\x93\x20",
-    b"\x93\x70\x01\x02\x03\x04\x04\x8e\x25",
-    b"\xe0\x80\x31\x73",
-    b"\x02\x00\xa4\x04\x00\x0e2PAY.SYS.DDF01\x00\xe0\x42",
-    b"\xc2\xe0\xb4",
-];
+const SENT: &str =
+    "52 500057cd 0500083973 52 9320 937001020304048e25 e0803173 0200a404000e325041592e5359532e444446303100e042 c2e0b4";
 
 fn combination() -> Combination
     ensures { IsCombination result }
@@ -80,19 +70,6 @@ fn field(alloc: Global) -> Result<Field, Fail> {
     Ok(field)
 }
 
-// Whether a transaction is open in a lane.
-fn is_open<K: Kernels>(lanes: &Lanes<K>, lane: u8) -> bool
-    ensures { result ≡ has_open (lanes_of K.state K.is_open K.is_fresh lanes.now) lane }
-{
-    if lane == 0 {
-        return false;
-    }
-    match lanes.lanes.get(usize::from(lane) - 1) {
-        Some(held) => held.opened,
-        None => false,
-    }
-}
-
 // Two lanes with the turn list 1, 1, 2, 1, each with the purchase open.
 fn two_lanes(rt: &(impl Abort + AllocGlobal)) -> Result<Lanes<Scripts>, Fail> {
     let turns = vec![in rt.alloc(); 1, 1, 2, 1]?;
@@ -104,7 +81,7 @@ fn two_lanes(rt: &(impl Abort + AllocGlobal)) -> Result<Lanes<Scripts>, Fail> {
         let mut events = EventList::new();
         let kernels = Scripts::of(Vec::new(rt.alloc()));
         assert!(rt; lanes.is_live(lane));
-        assert!(rt; !is_open(&lanes, lane));
+        assert!(rt; !lanes.has_open(lane));
         assert_eq!(rt;
             lanes.begin(lane, &prepared, kernels, 8, &mut events),
             Turned::Goes
@@ -140,9 +117,9 @@ impl Course {
     }
 
     // Counts an exchange that sends what the purchase sends then.
-    fn compare(&mut self, lane: u8, ask: &Ask) {
+    fn compare(&mut self, lane: u8, sent: &str) {
         let made = self.order.iter().filter(|taken| **taken == lane).count();
-        if made < SENT.len() && ask.frame.as_slice() == SENT[made] {
+        if SENT.split(' ').nth(made) == Some(sent) {
             self.usual = self.usual.saturating_add(1);
         }
     }
@@ -166,7 +143,7 @@ fn run<P: Probe>(
         let Some(lane) = lanes.next() else {
             break;
         };
-        assert!(rt; is_open(lanes, lane));
+        assert!(rt; lanes.has_open(lane));
         let mut events = EventList::new();
         let turned = if lane == 1 {
             lanes.turn(lane, &mut first, probe, &mut events).ok()
@@ -176,10 +153,11 @@ fn run<P: Probe>(
         let turned = turned.ok_or("a fault")?;
         let made = lanes.last().ok_or("no exchange")?;
         assert_eq!(rt; made.lane, lane);
-        course.compare(lane, &made.ask);
+        let sent = hex::encode(rt.alloc(), made.ask.frame.as_slice())?;
+        course.compare(lane, sent.as_str());
         course.take(lane, turned, &events);
         if turned != Turned::Goes {
-            assert!(rt; !is_open(lanes, lane));
+            assert!(rt; !lanes.has_open(lane));
             lanes.finish(lane);
         }
     }
@@ -270,14 +248,14 @@ fn a_medium_fails(rt: HostRuntime) -> Result<(), Fail> {
     let mut events = EventList::new();
     let mut broken = Broken { faults: 0 };
     assert_eq!(rt; lanes.next(), Some(1));
-    assert!(rt; is_open(&lanes, 1));
+    assert!(rt; lanes.has_open(1));
     assert_eq!(rt;
         lanes.turn(1, &mut broken, &mut Open, &mut events),
         Err(RfFailed)
     );
     assert!(rt; lanes.last().is_none());
     assert_eq!(rt; lanes.next(), Some(2));
-    assert!(rt; is_open(&lanes, 2));
+    assert!(rt; lanes.has_open(2));
     assert!(rt; events.is_empty());
     assert_eq!(rt;
         lanes.turn(2, &mut field, &mut Open, &mut events),

@@ -5,7 +5,7 @@ use Rattle.ep_rules.specs.EntryPoint.Configuration.{Config}
 use Rattle.scenario.specs.Scenario.{Work}
 use Rattle.lane_run.specs.Reports.{IsFew, IsNewWork}
 use Rattle.lane_run.specs.Works.{LaneWork, new_work}
-use Rattle.lane_run.proofs.tests.works.Goals as goal
+use Rattle.run_tests.proofs.lane_run_tests.works.Goals as goal
 
 is_new : (settings : Config) (jobs : List Work) → length jobs ≤ TRANSACTIONS → All (IsFew settings) jobs → IsNewWork settings (new_work jobs)
 is_new settings jobs short few = record { none = refl; first = refl; short = short; few = few }
