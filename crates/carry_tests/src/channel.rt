@@ -43,8 +43,12 @@ fn a_card_answers_until_the_log_is_full(rt: HostRuntime) {
     present(&rt, &mut direct);
     assert_eq!(rt; lost(&rt, &mut direct, &ppse), LinkEnd::Device);
     assert_eq!(rt;
-        (direct.log().records().len(), direct.log().spare()),
-        (2, 0)
+        (
+            direct.log().records().len(),
+            direct.log().spare(),
+            direct.number()
+        ),
+        (2, 0, 1)
     );
 }
 
