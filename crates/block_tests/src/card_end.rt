@@ -29,10 +29,10 @@ fn says(rt: &impl Abort, end: &mut CardEnd, block: &[u8], wanted: Option<&[u8]>)
     assert_eq!(rt; said(&next), wanted, "at {block:?}");
 }
 
-// A block with which the command is there.
-fn executes(rt: &impl Abort, end: &mut CardEnd, block: &[u8]) {
+// A block with which this command is there.
+fn executes(rt: &impl Abort, end: &mut CardEnd, block: &[u8], command: &[u8]) {
     let next = end.receive(Some(block));
-    assert_eq!(rt; executed(&next), Some(COMMAND.as_slice()));
+    assert_eq!(rt; executed(&next), Some(command));
 }
 
 // A response, for which time is asked so often with WTXM, and the first block that the card says.
@@ -54,7 +54,7 @@ fn a_command_in_two_parts(rt: HostRuntime) {
     says(&rt, &mut end, b"\x12\x00\xb2", Some(b"\xa2"));
     let next = end.receive(None);
     assert_eq!(rt; (said(&next), executed(&next)), (None, None));
-    executes(&rt, &mut end, b"\x03\x01\x0c");
+    executes(&rt, &mut end, b"\x03\x01\x0c", &COMMAND);
     answers(&rt, &mut end, b"\x90\x00", 0, 1, b"\x03\x90\x00");
 }
 
@@ -63,7 +63,7 @@ fn a_response_in_two_parts_of_which_one_is_lost(rt: HostRuntime) {
     let mut end = CardEnd::open(CardKind::A, 16);
     let response = b"\x01\x02\x03\x04\x05\x06\x07\x08\x09\x0a\x0b\x0c\x0d\x0e\x90\x00";
     let part = b"\x12\x01\x02\x03\x04\x05\x06\x07\x08\x09\x0a\x0b\x0c\x0d";
-    executes(&rt, &mut end, b"\x02\x00\xb2\x01\x0c");
+    executes(&rt, &mut end, b"\x02\x00\xb2\x01\x0c", &COMMAND);
     answers(&rt, &mut end, response, 0, 1, part);
     says(&rt, &mut end, b"\xb2", Some(part));
     says(&rt, &mut end, b"\xb3", Some(b"\xa2"));
@@ -77,7 +77,7 @@ fn a_response_in_two_parts_of_which_one_is_lost(rt: HostRuntime) {
 #[test]
 fn time_is_asked_for_twice(rt: HostRuntime) {
     let mut end = CardEnd::open(CardKind::A, 256);
-    executes(&rt, &mut end, b"\x02\x00\xb2\x01\x0c");
+    executes(&rt, &mut end, b"\x02\x00\xb2\x01\x0c", &COMMAND);
     answers(&rt, &mut end, b"\x90\x00", 2, 3, b"\xf2\x03");
     says(&rt, &mut end, b"\xb2", Some(b"\xf2\x03"));
     says(&rt, &mut end, b"\xf2\x43", Some(b"\xf2\x03"));
@@ -99,7 +99,7 @@ fn too_long_a_command_is_dropped(rt: HostRuntime) {
     );
     says(&rt, &mut end, b"\x02\x00", None);
     says(&rt, &mut end, b"\xb3", Some(b"\xa3"));
-    executes(&rt, &mut end, b"\x02\x00\xb2\x01\x0c");
+    executes(&rt, &mut end, b"\x02\x00\xb2\x01\x0c", &COMMAND);
 }
 
 #[test]

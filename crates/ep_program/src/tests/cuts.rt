@@ -108,13 +108,13 @@ fn each_cut_after(
 #[test]
 fn each_cut_of_the_purchase(rt: HostRuntime) -> Result<(), Fail> {
     let mut so_far = String::new(rt.alloc());
-    let mut before = "missing at version (0)";
+    let mut before = "missing at version (0)".to_string(rt.alloc())?;
     for row in PIECES.lines() {
         let (piece, end) = row.split_once(" => ").expect(&rt, row);
-        each_cut_after(&rt, &mut so_far, before, piece)?;
-        before = end;
+        each_cut_after(&rt, &mut so_far, before.as_str(), piece)?;
+        before = end.to_string(rt.alloc())?;
     }
-    assert_eq!(rt; before, "<report>");
+    assert_eq!(rt; before.as_str(), "<report>");
     let purchase = spelled(&rt, SECTIONS, PURCHASE)?;
     assert_eq!(rt; so_far.as_str(), purchase.as_str());
     Ok(())
