@@ -26,13 +26,13 @@ fn executed(next: &CardNext) -> Option<&[u8]> {
 // A block, and what the card says to it.
 fn says(rt: &impl Abort, end: &mut CardEnd, block: &[u8], wanted: Option<&[u8]>) {
     let next = end.receive(Some(block));
-    assert_eq!(rt; said(&next), wanted, "at {block:?}");
+    assert!(rt; said(&next) == wanted, "at {block:?}");
 }
 
 // A block with which this command is there.
 fn executes(rt: &impl Abort, end: &mut CardEnd, block: &[u8], command: &[u8]) {
     let next = end.receive(Some(block));
-    assert_eq!(rt; executed(&next), Some(command));
+    assert!(rt; executed(&next) == Some(command));
 }
 
 // A response, for which time is asked so often with WTXM, and the first block that the card says.
@@ -45,7 +45,7 @@ fn answers(rt: &impl Abort, end: &mut CardEnd, bytes: &[u8], wtx: u8, wtxm: u8, 
         panic!(rt; "no response");
     };
     let frame = end.answer(&response, wtx, wtxm);
-    assert_eq!(rt; open_frame(Wave::A, &frame), Some(wanted));
+    assert!(rt; open_frame(Wave::A, &frame) == Some(wanted));
 }
 
 #[test]
@@ -53,7 +53,7 @@ fn a_command_in_two_parts(rt: HostRuntime) {
     let mut end = CardEnd::open(CardKind::A, 256);
     says(&rt, &mut end, b"\x12\x00\xb2", Some(b"\xa2"));
     let next = end.receive(None);
-    assert_eq!(rt; (said(&next), executed(&next)), (None, None));
+    assert!(rt; (said(&next), executed(&next)) == (None, None));
     executes(&rt, &mut end, b"\x03\x01\x0c", &COMMAND);
     answers(&rt, &mut end, b"\x90\x00", 0, 1, b"\x03\x90\x00");
 }
@@ -112,7 +112,7 @@ fn bytes_that_are_no_command_and_a_halt(rt: HostRuntime) {
     let CardNext::Send(frame) = end.receive(Some(b"\xc2")) else {
         panic!(rt; "no answer");
     };
-    assert_eq!(rt; frame.as_slice(), b"\xc2\xe0\xb4".as_slice());
+    assert!(rt; frame.as_slice() == b"\xc2\xe0\xb4".as_slice());
     assert!(rt; end.halted());
     says(&rt, &mut end, b"\xc2", None);
     says(&rt, &mut end, b"\x02\x00\xb2\x01\x0c", None);

@@ -40,7 +40,7 @@ fn asks(rt: &impl Abort, end: &mut ReaderEnd, heard: &Heard, start: &[u8], wait:
         panic!(rt; "no question");
     };
     assert!(rt; ask.frame.as_slice().starts_with(start));
-    assert_eq!(rt; ask.wait, wait);
+    assert!(rt; ask.wait == wait);
     ask
 }
 
@@ -63,7 +63,7 @@ fn gives(rt: &impl Abort, end: &mut ReaderEnd, message: &[u8], wanted: &[u8])
     let Next::Done(response) = end.heard(&frame(Wave::A, message)) else {
         panic!(rt; "no response");
     };
-    assert_eq!(rt; response.bytes(), wanted);
+    assert!(rt; response.bytes() == wanted);
 }
 
 fn fails(rt: &impl Abort, end: &mut ReaderEnd, heard: &Heard) -> LinkEnd
@@ -87,7 +87,7 @@ fn breaks(rt: &impl Abort, end: &mut ReaderEnd, message: &[u8], wtx: u8)
         wtx,
     };
     let failed = fails(rt, end, &frame(Wave::A, message));
-    assert_eq!(rt; failed, LinkEnd::Breach(breach));
+    assert!(rt; failed == LinkEnd::Breach(breach));
 }
 
 #[test]
@@ -95,13 +95,13 @@ fn the_frames_of_a_whole_link(rt: HostRuntime) {
     let mut end = end_to(256, 8);
     end.begin(&Command::select(b"2PAY.SYS.DDF01"));
     let lost = asks(&rt, &mut end, &Heard::Silence, b"\xb2\x67\xc7", 16);
-    assert_eq!(rt; lost.frame.len(), 3);
+    assert!(rt; lost.frame.len() == 3);
     asks(&rt, &mut end, &frame(Wave::A, b"\xf2\x43"), b"\xf2\x03", 48);
     gives(&rt, &mut end, b"\x02\x6a\x82", b"\x6a\x82");
-    assert_eq!(rt; (end.number(), end.bad()), (1, 0));
+    assert!(rt; (end.number(), end.bad()) == (1, 0));
     let last = end.deselect();
-    assert_eq!(rt; last.frame.as_slice(), b"\xc2\xe0\xb4".as_slice());
-    assert_eq!(rt; last.wait, 16);
+    assert!(rt; last.frame.as_slice() == b"\xc2\xe0\xb4".as_slice());
+    assert!(rt; last.wait == 16);
 }
 
 #[test]
@@ -114,7 +114,7 @@ fn seventeen_waits(rt: HostRuntime) {
     asks_four_times(&rt, &mut end, &wait, b"\xf2\x3b", 944);
     asks_four_times(&rt, &mut end, &wait, b"\xf2\x3b", 944);
     breaks(&rt, &mut end, b"\xf2\x3b", 16);
-    assert_eq!(rt; end.since_toggle().len(), 17);
+    assert!(rt; end.since_toggle().len() == 17);
 }
 
 #[test]
@@ -125,7 +125,7 @@ fn a_chained_command_and_a_chained_response(rt: HostRuntime) {
     assert!(rt; first.frame.as_slice().starts_with(start));
     asks(&rt, &mut end, &frame(Wave::B, b"\xa2"), b"\xb2", 16);
     let again = asks(&rt, &mut end, &frame(Wave::A, b"\xa3"), start, 16);
-    assert_eq!(rt; again, first);
+    assert!(rt; again == first);
     asks(
         &rt,
         &mut end,
@@ -135,9 +135,9 @@ fn a_chained_command_and_a_chained_response(rt: HostRuntime) {
     );
     let more = asks(&rt, &mut end, &frame(Wave::A, b"\x13\x6f"), b"\xa2", 16);
     let again = asks(&rt, &mut end, &Heard::Overlap, b"\xa2", 16);
-    assert_eq!(rt; again, more);
+    assert!(rt; again == more);
     gives(&rt, &mut end, b"\x02\x00\x90\x00", b"\x6f\x00\x90\x00");
-    assert_eq!(rt; end.number(), 1);
+    assert!(rt; end.number() == 1);
 }
 
 #[test]
@@ -150,8 +150,8 @@ fn frames_that_are_damaged(rt: HostRuntime) {
     };
     asks(&rt, &mut end, &damaged, b"\xb2", 16);
     asks(&rt, &mut end, &damaged, b"\xb2", 16);
-    assert_eq!(rt; fails(&rt, &mut end, &damaged), LinkEnd::Spent { bad: 3 });
-    assert_eq!(rt; (end.bad(), end.since_toggle().len()), (3, 3));
+    assert!(rt; fails(&rt, &mut end, &damaged) == LinkEnd::Spent { bad: 3 });
+    assert!(rt; (end.bad(), end.since_toggle().len()) == (3, 3));
 }
 
 #[test]

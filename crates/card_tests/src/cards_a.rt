@@ -84,8 +84,8 @@ fn finds(rt: &impl Abort, uid: &[u8]) {
     let Some(RoundEnd::Card(found)) = exchange(&mut reader, &mut card) else {
         panic!(rt; "no card");
     };
-    assert_eq!(rt; found.id.as_slice(), uid);
-    assert_eq!(rt; (found.kind, found.fsc, found.fwi), (CardKind::A, 256, 7));
+    assert!(rt; found.id.as_slice() == uid);
+    assert!(rt; (found.kind, found.fsc, found.fwi) == (CardKind::A, 256, 7));
 }
 
 #[test]
@@ -103,14 +103,11 @@ fn sends(rt: &impl Abort, reader: &mut AReader, card: &mut ACard, wanted: &[u8],
     ensures { IsSome reader.new.stage }
 {
     let ask = reader.ask();
-    assert_eq!(rt;
-        (ask.reset, ask.wait, ask.frame.as_slice()),
-        (false, 0, wanted)
-    );
+    assert!(rt; (ask.reset, ask.wait, ask.frame.as_slice()) == (false, 0, wanted));
     let CardHear::Send(sent) = card.hear(ask.wave, &ask.frame) else {
         panic!(rt; "no answer");
     };
-    assert_eq!(rt; sent.frame.as_slice(), answer);
+    assert!(rt; sent.frame.as_slice() == answer);
     let None = reader.heard(&heard(CardHear::Send(sent))) else {
         panic!(rt; "the round ended");
     };
@@ -131,12 +128,12 @@ fn frames_as_sent(rt: HostRuntime) {
     let select = b"\x93\x70\x01\x02\x03\x04\x04\x8e\x25";
     sends(&rt, &mut reader, &mut card, select, b"\x20\xfc\x70");
     let rats = reader.ask();
-    assert_eq!(rt; rats.frame.as_slice(), b"\xe0\x80\x31\x73".as_slice());
+    assert!(rt; rats.frame.as_slice() == b"\xe0\x80\x31\x73".as_slice());
     let CardHear::Opened { answer, fsd } = card.hear(rats.wave, &rats.frame) else {
         panic!(rt; "no block protocol");
     };
-    assert_eq!(rt; (answer.wave, fsd), (Wave::A, 256));
-    assert_eq!(rt; answer.frame.as_slice(), b"\x03\x28\x40\x87\xe5".as_slice());
+    assert!(rt; (answer.wave, fsd) == (Wave::A, 256));
+    assert!(rt; answer.frame.as_slice() == b"\x03\x28\x40\x87\xe5".as_slice());
     assert!(rt;
         reader
             .heard(&heard(CardHear::Opened { answer, fsd }))
@@ -146,11 +143,8 @@ fn frames_as_sent(rt: HostRuntime) {
 
 #[test]
 fn ats_rows(rt: HostRuntime) {
-    assert_eq!(rt;
-        parse_ats(b"\x05\x78\x80\x70\x02"),
-        Ok(Ats { fsc: 256, fwi: 7 })
-    );
-    assert_eq!(rt; parse_ats(b"\x01"), Ok(Ats { fsc: 32, fwi: 4 }));
-    assert_eq!(rt; parse_ats(b"\x02\x78"), Err(AtsFault::Cut));
-    assert_eq!(rt; parse_ats(b"\x03\x28"), Err(AtsFault::LengthWrong));
+    assert!(rt; parse_ats(b"\x05\x78\x80\x70\x02") == Ok(Ats { fsc: 256, fwi: 7 }));
+    assert!(rt; parse_ats(b"\x01") == Ok(Ats { fsc: 32, fwi: 4 }));
+    assert!(rt; parse_ats(b"\x02\x78") == Err(AtsFault::Cut));
+    assert!(rt; parse_ats(b"\x03\x28") == Err(AtsFault::LengthWrong));
 }

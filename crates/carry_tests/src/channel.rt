@@ -19,14 +19,14 @@ fn present(rt: &impl Abort, direct: &mut Direct)
         card: card(256),
         collision: false,
     };
-    assert_eq!(rt; presented(rt, direct), wanted);
+    assert!(rt; presented(rt, direct) == wanted);
 }
 
 // A command that is answered so.
 fn answers(rt: &impl Abort, direct: &mut Direct, bytes: &[u8], wanted: &[u8]) {
     present(rt, direct);
     let response = answered(rt, direct, &command(rt, bytes));
-    assert_eq!(rt; response.bytes(), wanted);
+    assert!(rt; response.bytes() == wanted);
     assert!(rt; direct.close().is_ok());
 }
 
@@ -41,14 +41,13 @@ fn a_card_answers_until_the_log_is_full(rt: HostRuntime) {
     answers(&rt, &mut direct, b"\x00\xb2\x01\x0c", b"\x69\x85");
     answers(&rt, &mut direct, ppse.bytes(), b"\x6a\x82");
     present(&rt, &mut direct);
-    assert_eq!(rt; lost(&rt, &mut direct, &ppse), LinkEnd::Device);
-    assert_eq!(rt;
+    assert!(rt; lost(&rt, &mut direct, &ppse) == LinkEnd::Device);
+    assert!(rt;
         (
             direct.log().records().len(),
             direct.log().spare(),
             direct.number()
-        ),
-        (2, 0, 1)
+        ) == (2, 0, 1)
     );
 }
 
@@ -104,22 +103,16 @@ fn commands_over_a_medium(rt: HostRuntime) {
     let ppse = Command::select(b"2PAY.SYS.DDF01");
     let mut first = ReaderEnd::open(&card(256), 8);
     let response = carried(&rt, &mut first, &mut medium, &ppse);
-    assert_eq!(rt; response.bytes(), b"\x6a\x82".as_slice());
-    assert_eq!(rt; medium.sent.as_slice(), b"\xb2\x67\xc7".as_slice());
+    assert!(rt; response.bytes() == b"\x6a\x82".as_slice());
+    assert!(rt; medium.sent.as_slice() == b"\xb2\x67\xc7".as_slice());
     let breach = Breach {
         frame: sent_message(Wave::A, b"\x02\x6a\x82").frame,
         number: 1,
         phase: Phase::Sending,
         wtx: 0,
     };
-    assert_eq!(rt;
-        failed(&rt, &mut first, &mut medium, &ppse),
-        LinkEnd::Breach(breach)
-    );
+    assert!(rt; failed(&rt, &mut first, &mut medium, &ppse) == LinkEnd::Breach(breach));
     let mut second = ReaderEnd::open(&card(256), 8);
-    assert_eq!(rt;
-        failed(&rt, &mut second, &mut medium, &ppse),
-        LinkEnd::Device
-    );
-    assert_eq!(rt; medium.faults, 1);
+    assert!(rt; failed(&rt, &mut second, &mut medium, &ppse) == LinkEnd::Device);
+    assert!(rt; medium.faults == 1);
 }

@@ -109,24 +109,18 @@ fn count_of(listener: &Listener, pcbs: [u8; 2]) -> usize {
 
 // Compares the frames that were sent and heard after the first four.
 fn listened(rt: &impl Abort, listener: &Listener) {
-    assert_eq!(rt; listener.sent.len(), 4 + 44);
+    assert!(rt; listener.sent.len() == 4 + 44);
     // The command: 20 blocks of 13 bytes and one of 1, each of the 20 acknowledged after an R(NAK).
-    assert_eq!(rt; count_of(listener, [0x12, 0x13]), 20);
-    assert_eq!(rt; count_of(listener, [0x02, 0x03]), 1);
-    assert_eq!(rt; count_of(listener, [0xb2, 0xb3]), 20);
-    assert_eq!(rt;
-        listener.sent.get(42).map(|frame| frame.len()),
-        Some(1 + 13 + 2)
-    );
-    assert_eq!(rt;
-        listener.sent.get(44).map(|frame| frame.len()),
-        Some(1 + 1 + 2)
-    );
+    assert!(rt; count_of(listener, [0x12, 0x13]) == 20);
+    assert!(rt; count_of(listener, [0x02, 0x03]) == 1);
+    assert!(rt; count_of(listener, [0xb2, 0xb3]) == 20);
+    assert!(rt; listener.sent.get(42).map(|frame| frame.len()) == Some(1 + 13 + 2));
+    assert!(rt; listener.sent.get(44).map(|frame| frame.len()) == Some(1 + 1 + 2));
     // The response: a part of 253 bytes, a lost R(ACK), a lost part, and the part of 5 bytes once more.
-    assert_eq!(rt; count_of(listener, [0xa2, 0xa3]), 3);
+    assert!(rt; count_of(listener, [0xa2, 0xa3]) == 3);
     let parts = [1 + 253 + 2, 0, 0, 1 + 5 + 2];
     for (part, length) in listener.heard.iter().skip(44).zip(parts.iter()) {
-        assert_eq!(rt; part, length);
+        assert!(rt; part == length);
     }
 }
 
@@ -142,9 +136,9 @@ fn the_longest_command_over_the_radio(rt: HostRuntime) {
     presented(&rt, &mut radio);
     answered(&rt, &mut radio, &command(&rt, SELECT_APP));
     let answer = answered(&rt, &mut radio, &longest_command(&rt));
-    assert_eq!(rt; answer.bytes(), response.as_slice());
+    assert!(rt; answer.bytes() == response.as_slice());
     listened(&rt, radio.medium());
-    assert_eq!(rt; radio.medium().field.log().records().len(), 2);
+    assert!(rt; radio.medium().field.log().records().len() == 2);
 }
 
 // A reader at a field with one card, of which these frames are lost.
@@ -182,9 +176,8 @@ fn responds(rt: &impl Abort, reader: &mut FieldReader, command: &Command) -> Res
 
 // Compares how many exchanges were made, and how many commands were executed.
 fn counts(rt: &impl Abort, reader: &FieldReader, exchanges: u64, executed: usize) {
-    assert_eq!(rt;
-        (reader.field().exchanges(), reader.log().records().len()),
-        (exchanges, executed)
+    assert!(rt;
+        (reader.field().exchanges(), reader.log().records().len()) == (exchanges, executed)
     );
 }
 
@@ -193,11 +186,11 @@ fn one_command_at_a_field(rt: HostRuntime) {
     let response = longest_response();
     let mut reader = reader(&rt, &response, MANY_LOSSES);
     let presented = found(&rt, &mut reader);
-    assert_eq!(rt; (presented.card.fsc, presented.collision), (16, false));
+    assert!(rt; (presented.card.fsc, presented.collision) == (16, false));
     responds(&rt, &mut reader, &command(&rt, SELECT_APP));
     counts(&rt, &reader, 4, 1);
     let answer = responds(&rt, &mut reader, &longest_command(&rt));
-    assert_eq!(rt; answer.bytes(), response.as_slice());
+    assert!(rt; answer.bytes() == response.as_slice());
     counts(&rt, &reader, 48, 2);
     assert!(rt; reader.close().is_ok());
     counts(&rt, &reader, 49, 2);
@@ -211,6 +204,6 @@ fn a_spent_link_at_a_field(rt: HostRuntime) {
     let Err(failed) = reader.transact(&command(&rt, SELECT_APP)) else {
         panic!(rt; "a response");
     };
-    assert_eq!(rt; failed, LinkEnd::Spent { bad: 3 });
+    assert!(rt; failed == LinkEnd::Spent { bad: 3 });
     counts(&rt, &reader, 6, 1);
 }

@@ -92,10 +92,10 @@ fn recorded(rt: &(impl Abort + AllocGlobal), image: CardImage, lost: &[u8]) -> R
 
 // Compares the frames that were sent: the block of SELECT PPSE at I, R(NAK) at N.
 fn sends(rt: &impl Abort, medium: &Recorder, letters: &[u8]) {
-    assert_eq!(rt; medium.frames.len(), letters.len());
+    assert!(rt; medium.frames.len() == letters.len());
     for (frame, letter) in medium.frames.iter().zip(letters) {
         let wanted = if *letter == b'I' { FIRST_BLOCK } else { NAK };
-        assert_eq!(rt; frame.as_slice(), wanted);
+        assert!(rt; frame.as_slice() == wanted);
     }
 }
 
@@ -105,9 +105,9 @@ fn answers(rt: &(impl Abort + AllocGlobal), lost: &[u8], letters: &[u8]) {
     let mut end = ReaderEnd::open(&card(256), 8);
     let ppse = Command::select(b"2PAY.SYS.DDF01");
     let response = carried(rt, &mut end, &mut medium, &ppse);
-    assert_eq!(rt; response.bytes(), PPSE_ANSWER);
+    assert!(rt; response.bytes() == PPSE_ANSWER);
     sends(rt, &medium, letters);
-    assert_eq!(rt; medium.wire.log().records().len(), 1);
+    assert!(rt; medium.wire.log().records().len() == 1);
 }
 
 // The same over a link that is spent, and how often the command was executed.
@@ -116,9 +116,9 @@ fn spends(rt: &(impl Abort + AllocGlobal), lost: &[u8], letters: &[u8], executed
     let mut end = ReaderEnd::open(&card(256), 8);
     let ppse = Command::select(b"2PAY.SYS.DDF01");
     let spent = failed(rt, &mut end, &mut medium, &ppse);
-    assert_eq!(rt; spent, LinkEnd::Spent { bad: 3 });
+    assert!(rt; spent == LinkEnd::Spent { bad: 3 });
     sends(rt, &medium, letters);
-    assert_eq!(rt; medium.wire.log().records().len(), executed);
+    assert!(rt; medium.wire.log().records().len() == executed);
 }
 
 #[test]
@@ -146,7 +146,7 @@ fn selected(
     let mut medium = recorded(rt, image, lost);
     let mut end = ReaderEnd::open(&card(fsc), 8);
     let response = carried(rt, &mut end, &mut medium, &command(rt, SELECT_APP));
-    assert_eq!(rt; response.bytes(), b"\x90\x00".as_slice());
+    assert!(rt; response.bytes() == b"\x90\x00".as_slice());
     medium.frames.clear();
     medium.waits.clear();
     (end, medium)
@@ -167,28 +167,28 @@ fn the_longest_command_in_the_smallest_frames(rt: HostRuntime) {
     let image = app_image(&rt, &response, 0);
     let (mut end, mut medium) = selected(&rt, 16, image, MANY_LOSSES);
     let answer = carried(&rt, &mut end, &mut medium, &longest_command(&rt));
-    assert_eq!(rt; answer.bytes(), response.as_slice());
-    assert_eq!(rt; medium.frames.len(), 44);
-    assert_eq!(rt; count_of(&medium, [0x12, 0x13]), 20);
-    assert_eq!(rt; count_of(&medium, [0x02, 0x03]), 1);
-    assert_eq!(rt; count_of(&medium, [0xb2, 0xb3]), 20);
-    assert_eq!(rt; count_of(&medium, [0xa2, 0xa3]), 3);
-    assert_eq!(rt; medium.wire.log().records().len(), 2);
+    assert!(rt; answer.bytes() == response.as_slice());
+    assert!(rt; medium.frames.len() == 44);
+    assert!(rt; count_of(&medium, [0x12, 0x13]) == 20);
+    assert!(rt; count_of(&medium, [0x02, 0x03]) == 1);
+    assert!(rt; count_of(&medium, [0xb2, 0xb3]) == 20);
+    assert!(rt; count_of(&medium, [0xa2, 0xa3]) == 3);
+    assert!(rt; medium.wire.log().records().len() == 2);
 }
 
 // Compares the PCBs of the frames that were sent.
 fn begin(rt: &impl Abort, medium: &Recorder, pcbs: &[u8]) {
-    assert_eq!(rt; medium.frames.len(), pcbs.len());
+    assert!(rt; medium.frames.len() == pcbs.len());
     for (frame, pcb) in medium.frames.iter().zip(pcbs) {
-        assert_eq!(rt; frame.first(), Some(pcb));
+        assert!(rt; frame.first() == Some(pcb));
     }
 }
 
 // Compares the waiting numbers of the frames that were sent.
 fn wait(rt: &impl Abort, medium: &Recorder, numbers: &[u8]) {
-    assert_eq!(rt; medium.waits.len(), numbers.len());
+    assert!(rt; medium.waits.len() == numbers.len());
     for (wait, number) in medium.waits.iter().zip(numbers) {
-        assert_eq!(rt; *wait, u32::from(*number));
+        assert!(rt; *wait == u32::from(*number));
     }
 }
 
@@ -198,10 +198,10 @@ fn time_is_asked_for_twice(rt: HostRuntime) {
     let (mut end, mut medium) = selected(&rt, 256, image, b"3f");
     let ask = command(&rt, b"\x80\xa8\x00\x00");
     let answer = carried(&rt, &mut end, &mut medium, &ask);
-    assert_eq!(rt; answer.bytes(), b"\x90\x00".as_slice());
+    assert!(rt; answer.bytes() == b"\x90\x00".as_slice());
     begin(&rt, &medium, b"\x03\xf2\xf2\xb3\xf2");
     wait(&rt, &medium, &[16, 48, 48, 16, 48]);
-    assert_eq!(rt; medium.wire.log().records().len(), 2);
+    assert!(rt; medium.wire.log().records().len() == 2);
 }
 
 #[test]
@@ -214,11 +214,11 @@ fn two_commands_over_one_link(rt: HostRuntime) {
     let Ok(response) = link.transact(&Command::select(b"2PAY.SYS.DDF01")) else {
         panic!(rt; "no response");
     };
-    assert_eq!(rt; response.bytes(), PPSE_ANSWER);
+    assert!(rt; response.bytes() == PPSE_ANSWER);
     assert!(rt; link.log().spare() >= 2);
     let Ok(response) = link.transact(&Command::select(b"\xa0\x00\x00\x00\x03")) else {
         panic!(rt; "no response");
     };
-    assert_eq!(rt; response.bytes(), b"\x6a\x82".as_slice());
-    assert_eq!(rt; (link.exchanges(), link.log().records().len()), (3, 2));
+    assert!(rt; response.bytes() == b"\x6a\x82".as_slice());
+    assert!(rt; (link.exchanges(), link.log().records().len()) == (3, 2));
 }

@@ -84,12 +84,12 @@ fn a_command_and_a_closing(rt: HostRuntime) {
         card: card(256),
         collision: false,
     };
-    assert_eq!(rt; presented(&rt, &mut radio), wanted);
+    assert!(rt; presented(&rt, &mut radio) == wanted);
     let response = answered(&rt, &mut radio, &Command::select(b"2PAY.SYS.DDF01"));
-    assert_eq!(rt; response.bytes(), b"\x6a\x82".as_slice());
+    assert!(rt; response.bytes() == b"\x6a\x82".as_slice());
     assert!(rt; radio.close().is_ok());
-    assert_eq!(rt; radio.medium().calls, 9);
-    assert_eq!(rt; radio.medium().sent.as_slice(), b"\xc2\xe0\xb4".as_slice());
+    assert!(rt; radio.medium().calls == 9);
+    assert!(rt; radio.medium().sent.as_slice() == b"\xc2\xe0\xb4".as_slice());
 }
 
 #[test]
@@ -100,20 +100,20 @@ fn a_collision_a_spent_link_and_a_fresh_one(rt: HostRuntime) {
         card: card(256),
         collision: true,
     };
-    assert_eq!(rt; presented(&rt, &mut radio), wanted);
-    assert_eq!(rt; lost(&rt, &mut radio, &ppse), LinkEnd::Spent { bad: 3 });
+    assert!(rt; presented(&rt, &mut radio) == wanted);
+    assert!(rt; lost(&rt, &mut radio, &ppse) == LinkEnd::Spent { bad: 3 });
     assert!(rt; !presented(&rt, &mut radio).collision);
     let response = answered(&rt, &mut radio, &ppse);
-    assert_eq!(rt; response.bytes(), b"\x6a\x82".as_slice());
-    assert_eq!(rt; radio.close(), Err(RfFailed));
+    assert!(rt; response.bytes() == b"\x6a\x82".as_slice());
+    assert!(rt; radio.close() == Err(RfFailed));
 }
 
 #[test]
 fn no_card_and_a_device_that_fails(rt: HostRuntime) {
     let mut radio = radio(b"", 130);
     let none = PresentEnd::NoCard { collision: false };
-    assert_eq!(rt; radio.present(), Err(none));
-    assert_eq!(rt; radio.medium().calls, 128);
-    assert_eq!(rt; radio.present(), Err(PresentEnd::Device));
-    assert_eq!(rt; radio.medium().calls, 130);
+    assert!(rt; radio.present() == Err(none));
+    assert!(rt; radio.medium().calls == 128);
+    assert!(rt; radio.present() == Err(PresentEnd::Device));
+    assert!(rt; radio.medium().calls == 130);
 }

@@ -185,7 +185,7 @@ fn check_table(rt: &(impl Abort + AllocGlobal), table: &str) -> Result<(), Fail>
             let document = changed(rt, place.as_str(), "*", text.as_str())?;
             let wanted = end.replace(rt.alloc(), "@", path.as_str())?;
             let found = end_of(rt, document.as_bytes())?;
-            assert_eq!(rt; found.as_str(), wanted.as_str(), "{line}");
+            assert!(rt; found.as_str() == wanted.as_str(), "{line}");
         } else {
             assert!(rt; line.is_empty() || line.starts_with('#'), "{line}");
         }

@@ -101,8 +101,8 @@ fn card_b(iso4: bool) -> BCard {
 
 /// Compares a card with this one of its kind.
 fn is_found(rt: &impl Abort, card: &Activated, kind: CardKind, id: &[u8]) {
-    assert_eq!(rt; card.id.as_slice(), id);
-    assert_eq!(rt; (card.kind, card.fsc, card.fwi), (kind, 256, 4));
+    assert!(rt; card.id.as_slice() == id);
+    assert!(rt; (card.kind, card.fsc, card.fwi) == (kind, 256, 4));
 }
 
 /// A medium with these cards.
@@ -116,7 +116,7 @@ fn ends_with(rt: &impl Abort, medium: &mut Cards, kind: CardKind, id: &[u8], exc
         panic!(rt; "no card");
     };
     is_found(rt, &card, kind, id);
-    assert_eq!(rt; medium.exchanges, exchanges, "{id:?}");
+    assert!(rt; medium.exchanges == exchanges, "{id:?}");
 }
 
 /// A round with one card of Type A.
@@ -137,18 +137,18 @@ fn rounds_with_one_card_of_type_b(rt: HostRuntime) {
     let mut medium = with_cards(None, Some(card_b(true)));
     ends_with(&rt, &mut medium, CardKind::B, b"\x11\x22\x33\x44", 3);
     let mut medium = with_cards(None, Some(card_b(false)));
-    assert_eq!(rt; round(&mut medium, 8), Ok(RoundEnd::Unsupported));
-    assert_eq!(rt; medium.exchanges, 2);
+    assert!(rt; round(&mut medium, 8) == Ok(RoundEnd::Unsupported));
+    assert!(rt; medium.exchanges == 2);
 }
 
 /// Polls until so many exchanges were made and all rounds have ended so, without a card.
 fn polls(rt: &impl Abort, medium: &mut Cards, exchanges: u32, wanted: &RoundEnd) {
     let mut rounds = Rounds::new();
-    assert_eq!(rt; poll(medium, 8, &mut rounds), Err(PollEnd::NoCard));
-    assert_eq!(rt; medium.exchanges, exchanges);
-    assert_eq!(rt; rounds.len(), ROUNDS);
+    assert!(rt; poll(medium, 8, &mut rounds) == Err(PollEnd::NoCard));
+    assert!(rt; medium.exchanges == exchanges);
+    assert!(rt; rounds.len() == ROUNDS);
     for end in rounds.as_slice() {
-        assert_eq!(rt; end, wanted);
+        assert!(rt; end == wanted);
     }
 }
 
@@ -223,16 +223,16 @@ fn polls_until_a_card(rt: HostRuntime) {
     };
     is_found(&rt, &card, CardKind::B, b"\x11\x22\x33\x44");
     let ends = [RoundEnd::Empty, RoundEnd::Empty, RoundEnd::Card(card)];
-    assert_eq!(rt; rounds.as_slice(), ends.as_slice());
+    assert!(rt; rounds.as_slice() == ends.as_slice());
 }
 
 #[test]
 fn polls_until_a_fault(rt: HostRuntime) {
     let mut medium = comes_late(100, 6);
     let mut rounds = Rounds::new();
-    assert_eq!(rt; poll(&mut medium, 8, &mut rounds), Err(PollEnd::Device));
-    assert_eq!(rt; rounds.len(), 2);
-    assert_eq!(rt; medium.faults, 1);
+    assert!(rt; poll(&mut medium, 8, &mut rounds) == Err(PollEnd::Device));
+    assert!(rt; rounds.len() == 2);
+    assert!(rt; medium.faults == 1);
 }
 
 /// One exchange that begins with or without a reset, has this frame, and doesn't end the round.
@@ -241,10 +241,7 @@ fn sends(rt: &impl Abort, poll: &mut Poll, medium: &mut Cards, reset: bool, want
     ensures { IsSome poll.new.stage }
 {
     let ask = poll.ask();
-    assert_eq!(rt;
-        (ask.reset, ask.wait, ask.frame.as_slice()),
-        (reset, 0, wanted)
-    );
+    assert!(rt; (ask.reset, ask.wait, ask.frame.as_slice()) == (reset, 0, wanted));
     let Ok(heard) = medium.send(ask.wave, &ask.frame, 0) else {
         panic!(rt; "no exchange");
     };
@@ -265,5 +262,5 @@ fn frames_as_sent(rt: HostRuntime) {
     let select = b"\x93\x70\x01\x02\x03\x04\x04\x8e\x25";
     sends(&rt, &mut poll, &mut medium, false, select);
     let rats = poll.ask();
-    assert_eq!(rt; rats.frame.as_slice(), b"\xe0\x80\x31\x73".as_slice());
+    assert!(rt; rats.frame.as_slice() == b"\xe0\x80\x31\x73".as_slice());
 }

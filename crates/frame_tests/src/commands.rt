@@ -27,7 +27,7 @@ fn commands_by_their_lengths(rt: HostRuntime) {
         (&long, Some(ApduFault::TooLong)),
     ];
     for (bytes, wanted) in cases {
-        assert_eq!(rt; fault_of_command(bytes), wanted, "at {bytes:?}");
+        assert!(rt; fault_of_command(bytes) == wanted, "at {bytes:?}");
     }
 }
 
@@ -41,15 +41,12 @@ fn responses_by_their_lengths(rt: HostRuntime) {
         (&long, Some(ApduFault::TooLong)),
     ];
     for (bytes, wanted) in cases {
-        assert_eq!(rt; Response::of(bytes).err(), wanted, "at {bytes:?}");
+        assert!(rt; Response::of(bytes).err() == wanted, "at {bytes:?}");
     }
 }
 
 #[test]
 fn select_of_the_payment_directory(rt: HostRuntime) {
     let command = Command::select(b"2PAY.SYS.DDF01");
-    assert_eq!(rt;
-        command.bytes(),
-        b"\x00\xa4\x04\x00\x0e2PAY.SYS.DDF01\x00".as_slice()
-    );
+    assert!(rt; command.bytes() == b"\x00\xa4\x04\x00\x0e2PAY.SYS.DDF01\x00".as_slice());
 }

@@ -52,9 +52,8 @@ const ROWS: [Row; 18] = [
 #[test]
 fn checks_as_sent(rt: HostRuntime) -> Result<(), Fail> {
     for (wave, message, sum) in &ROWS {
-        assert_eq!(rt;
-            check(*wave, message),
-            u16::from_le_bytes(*sum),
+        assert!(rt;
+            check(*wave, message) == u16::from_le_bytes(*sum),
             "the check of {message:?}"
         );
         let mut frame = framed(message)?;
@@ -62,10 +61,10 @@ fn checks_as_sent(rt: HostRuntime) -> Result<(), Fail> {
         seal(*wave, &mut frame);
         let mut sent = framed(message)?;
         sent.try_extend_from_slice(sum)?;
-        assert_eq!(rt; frame, sent, "the frame of {message:?}");
+        assert!(rt; frame == sent, "the frame of {message:?}");
         assert!(rt; good(*wave, frame.as_slice()));
         let opened = open_frame(*wave, &frame).ok_or("not opened")?;
-        assert_eq!(rt; opened, *message);
+        assert!(rt; opened == *message);
     }
     Ok(())
 }
@@ -90,8 +89,8 @@ fn bursts(rt: HostRuntime) -> Result<(), Fail> {
             mask: 0xffff,
         };
         let mut frame = framed(before)?;
-        assert_eq!(rt; flip(*wave, &mut frame, burst), *inverted, "at {start}");
-        assert_eq!(rt; frame.as_slice(), *after, "at {start}");
+        assert!(rt; flip(*wave, &mut frame, burst) == *inverted, "at {start}");
+        assert!(rt; frame.as_slice() == *after, "at {start}");
     }
     let sent = framed(b"\x50\x00\x57\xcd")?;
     assert!(rt; good(Wave::A, sent.as_slice()));
@@ -206,22 +205,15 @@ fn a_medium_by_its_steps(rt: HostRuntime) -> Result<(), Fail> {
         wait: 0,
     };
     let select = ask_message(Wave::A, b"\x93\x70\x01\x02\x03\x04\x04");
-    assert_eq!(rt;
-        exchange(&mut medium, &wake),
-        Ok(heard(Wave::ABare, b"\x04\x00")?)
-    );
-    assert_eq!(rt; exchange(&mut medium, &select), Err(RfFailed));
-    assert_eq!(rt;
-        exchange(&mut medium, &select.copy()),
-        Ok(heard(Wave::A, b"\x20")?)
-    );
-    assert_eq!(rt; exchange(&mut medium, &wake), Err(RfFailed));
-    assert_eq!(rt; exchange(&mut medium, &select), Ok(Heard::Overlap));
-    assert_eq!(rt; exchange(&mut medium, &select), Ok(Heard::Silence));
-    assert_eq!(rt; medium.faults, 2);
-    assert_eq!(rt;
-        exchange(&mut Untold, &select),
-        Ok(heard(Wave::A, b"\x93\x70\x01\x02\x03\x04\x04")?)
+    assert!(rt; exchange(&mut medium, &wake) == Ok(heard(Wave::ABare, b"\x04\x00")?));
+    assert!(rt; exchange(&mut medium, &select) == Err(RfFailed));
+    assert!(rt; exchange(&mut medium, &select.copy()) == Ok(heard(Wave::A, b"\x20")?));
+    assert!(rt; exchange(&mut medium, &wake) == Err(RfFailed));
+    assert!(rt; exchange(&mut medium, &select) == Ok(Heard::Overlap));
+    assert!(rt; exchange(&mut medium, &select) == Ok(Heard::Silence));
+    assert!(rt; medium.faults == 2);
+    assert!(rt;
+        exchange(&mut Untold, &select) == Ok(heard(Wave::A, b"\x93\x70\x01\x02\x03\x04\x04")?)
     );
     Ok(())
 }
@@ -231,13 +223,10 @@ fn answers_and_copies(rt: HostRuntime) -> Result<(), Fail> {
     let sak = heard(Wave::A, b"\x20")?;
     assert!(rt; !sak.is_silent());
     assert!(rt; Heard::default().is_silent());
-    assert_eq!(rt; RoundEnd::default(), RoundEnd::Empty);
-    assert_eq!(rt; answer_in(Wave::A, &sak), Ok(b"\x20".as_slice()));
-    assert_eq!(rt; answer_in(Wave::B, &sak), Err(RoundEnd::Broken));
-    assert_eq!(rt;
-        answer_in(Wave::A, &Heard::Overlap),
-        Err(RoundEnd::Collision)
-    );
+    assert!(rt; RoundEnd::default() == RoundEnd::Empty);
+    assert!(rt; answer_in(Wave::A, &sak) == Ok(b"\x20".as_slice()));
+    assert!(rt; answer_in(Wave::B, &sak) == Err(RoundEnd::Broken));
+    assert!(rt; answer_in(Wave::A, &Heard::Overlap) == Err(RoundEnd::Collision));
     let mut id = Buf::<10>::new();
     id.try_extend_from_slice(b"\x01\x02\x03\x04")?;
     let card = Activated {
@@ -246,13 +235,13 @@ fn answers_and_copies(rt: HostRuntime) -> Result<(), Fail> {
         fsc: 256,
         fwi: 4,
     };
-    assert_eq!(rt; card.copy(), card);
+    assert!(rt; card.copy() == card);
     let end = RoundEnd::Card(card);
-    assert_eq!(rt; end.copy(), end);
+    assert!(rt; end.copy() == end);
     let opened = CardHear::Opened {
         answer: sent_message(Wave::A, b"\x03\x28\x40"),
         fsd: 256,
     };
-    assert_eq!(rt; opened.copy(), opened);
+    assert!(rt; opened.copy() == opened);
     Ok(())
 }

@@ -3,8 +3,8 @@ use raw_block::RawBlock;
 #[test]
 fn opens_empty(rt: HostRuntime) {
     let block = RawBlock::open(rt.alloc(), 64).ok().expect(&rt, "it opens");
-    assert_eq!(rt; block.len(), 0);
-    assert_eq!(rt; block.cap(), 64);
+    assert!(rt; block.len() == 0);
+    assert!(rt; block.cap() == 64);
 }
 
 #[test]

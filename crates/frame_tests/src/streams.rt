@@ -45,8 +45,8 @@ fn reads_to_the_end_or_says_why_not(rt: HostRuntime) -> Result<(), Fail> {
         let fails = vec![in rt.alloc(); fails]?;
         let mut source = MemorySource::new(bytes, fails);
         match read_all(rt.alloc(), &mut source, limit) {
-            Ok(bytes) => assert_eq!(rt; (bytes.len(), wanted), (count, None)),
-            Err(end) => assert_eq!(rt; Some(end), wanted, "{count} of {limit}"),
+            Ok(bytes) => assert!(rt; (bytes.len(), wanted) == (count, None)),
+            Err(end) => assert!(rt; Some(end) == wanted, "{count} of {limit}"),
         }
     }
     Ok(())
@@ -56,14 +56,14 @@ fn reads_to_the_end_or_says_why_not(rt: HostRuntime) -> Result<(), Fail> {
 fn pushes_all_or_a_prefix(rt: HostRuntime) -> Result<(), Fail> {
     let fails = vec![in rt.alloc(); 2u32]?;
     let mut sink = MemorySink::new(rt.alloc(), 8, fails).map_err(|_| "room")?;
-    assert_eq!(rt; push_all(&mut sink, b"one"), Ok(()));
-    assert_eq!(rt; push_all(&mut sink, b"two"), Err(SinkFailed));
-    assert_eq!(rt; push_all(&mut sink, b"three"), Ok(()));
-    assert_eq!(rt; push_all(&mut sink, b"4"), Err(SinkFailed));
-    assert_eq!(rt; sink.written(), b"onethree".as_slice());
+    assert!(rt; push_all(&mut sink, b"one") == Ok(()));
+    assert!(rt; push_all(&mut sink, b"two") == Err(SinkFailed));
+    assert!(rt; push_all(&mut sink, b"three") == Ok(()));
+    assert!(rt; push_all(&mut sink, b"4") == Err(SinkFailed));
+    assert!(rt; sink.written() == b"onethree".as_slice());
     let mut slow = Slow { left: 4, faults: 0 };
-    assert_eq!(rt; push_all(&mut slow, b"four"), Ok(()));
-    assert_eq!(rt; push_all(&mut slow, b"more"), Err(SinkFailed));
+    assert!(rt; push_all(&mut slow, b"four") == Ok(()));
+    assert!(rt; push_all(&mut slow, b"more") == Err(SinkFailed));
     Ok(())
 }
 
@@ -71,11 +71,11 @@ fn pushes_all_or_a_prefix(rt: HostRuntime) -> Result<(), Fail> {
 fn reads_and_writes_over_std(rt: HostRuntime) -> Result<(), Fail> {
     let mut source = StdSource::new(Cursor::new(b"bytes of a reader".as_slice()));
     let bytes = read_all(rt.alloc(), &mut source, 17).map_err(|_| "read")?;
-    assert_eq!(rt; bytes.as_slice(), b"bytes of a reader".as_slice());
+    assert!(rt; bytes.as_slice() == b"bytes of a reader".as_slice());
     let mut room = [0u8; 5];
     let mut sink = StdSink::new(Cursor::new(room.as_mut_slice()));
-    assert_eq!(rt; sink.push(b"bytes"), Ok(5));
-    assert_eq!(rt; sink.push(b""), Ok(0));
-    assert_eq!(rt; sink.push(b"more"), Err(SinkFailed));
+    assert!(rt; sink.push(b"bytes") == Ok(5));
+    assert!(rt; sink.push(b"") == Ok(0));
+    assert!(rt; sink.push(b"more") == Err(SinkFailed));
     Ok(())
 }

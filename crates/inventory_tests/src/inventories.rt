@@ -113,10 +113,10 @@ fn cards_of_clean_fields(rt: HostRuntime) -> Result<(), Fail> {
     for (exchanges, uids) in &ROWS {
         let mut field = clean(rt.alloc(), uids)?;
         let mut found = ArrayVec::new();
-        assert_eq!(rt; inventory(&mut field, &mut found), Ok(*exchanges));
-        assert_eq!(rt; found.len(), uids.len());
+        assert!(rt; inventory(&mut field, &mut found) == Ok(*exchanges));
+        assert!(rt; found.len() == uids.len());
         for (card, uid) in found.as_slice().iter().zip(*uids) {
-            assert_eq!(rt; card.uid.as_slice(), *uid);
+            assert!(rt; card.uid.as_slice() == *uid);
         }
     }
     Ok(())
@@ -264,8 +264,8 @@ fn odd_answers(rt: HostRuntime) -> Result<(), Fail> {
     ] {
         let mut found = ArrayVec::new();
         let mut field = answering(first, later, sak, 100);
-        assert_eq!(rt; inventory(&mut field, &mut found), wanted);
-        assert_eq!(rt; found.len(), count);
+        assert!(rt; inventory(&mut field, &mut found) == wanted);
+        assert!(rt; found.len() == count);
     }
     Ok(())
 }
@@ -276,9 +276,9 @@ fn each_call_fails(rt: HostRuntime) -> Result<(), Fail> {
         let mut found = ArrayVec::new();
         let mut field = answering(split(0), EVEN, Some(0x20), calls);
         let end = inventory(&mut field, &mut found);
-        assert_eq!(rt; end, Err(InventoryEnd::Device));
-        assert_eq!(rt; field.exchanges, u64::from(calls));
-        assert_eq!(rt; (field.faults, found.len()), (1, usize::from(calls == 5)));
+        assert!(rt; end == Err(InventoryEnd::Device));
+        assert!(rt; field.exchanges == u64::from(calls));
+        assert!(rt; (field.faults, found.len()) == (1, usize::from(calls == 5)));
     }
     Ok(())
 }
@@ -340,12 +340,12 @@ fn crowds(rt: HostRuntime) -> Result<(), Fail> {
         } else {
             Ok(63)
         };
-        assert_eq!(rt; end, wanted);
-        assert_eq!(rt; field.exchanges, if more { 67 } else { 63 });
+        assert!(rt; end == wanted);
+        assert!(rt; field.exchanges == if more { 67 } else { 63 });
         let firsts = [0, 8, 4, 12, 2, 10, 6, 14, 1, 9, 5, 13, 3, 11, 7, 15];
-        assert_eq!(rt; found.len(), 16);
+        assert!(rt; found.len() == 16);
         for (card, first) in found.as_slice().iter().zip(firsts.as_slice()) {
-            assert_eq!(rt; card.uid.as_slice(), [*first, 0, 0, 0].as_slice());
+            assert!(rt; card.uid.as_slice() == [*first, 0, 0, 0].as_slice());
         }
     }
     Ok(())
@@ -355,9 +355,9 @@ fn crowds(rt: HostRuntime) -> Result<(), Fail> {
 fn lines(rt: HostRuntime) -> Result<(), Fail> {
     let mut line = Line::new();
     inventory_line(1, 1, 2, &mut line);
-    assert_eq!(rt; line.as_str(), "inventory 1.1 tags=2\n");
+    assert!(rt; line.as_str() == "inventory 1.1 tags=2\n");
     let mut line = Line::new();
     tag_line(&tag(b"\x04\x11\x22\x77\x88\x99\xaa")?, &mut line);
-    assert_eq!(rt; line.as_str(), "tag 041122778899aa sak=20\n");
+    assert!(rt; line.as_str() == "tag 041122778899aa sak=20\n");
     Ok(())
 }

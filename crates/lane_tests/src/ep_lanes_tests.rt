@@ -1,17 +1,14 @@
 //! Two lanes over two fields, a probe that gives silence, and a medium that fails.
 ghost use Rattle.std.specs.Prelude.{◌≡◌, ◌≤◌, All, IfOk, length, vec_len};
-ghost use Rattle.ep_rules.specs.EntryPoint.Configuration.{IsCombination};
 ghost use Rattle.ep_lanes.specs.Lanes.{has_open, is_live, lanes_of};
-ghost use Rattle.rf_field.specs.Plans.{PlanFits};
 
-use acquirer_config::{Combination, Config};
+use crate::cards::{combination, field};
+use acquirer_config::Config;
 use arrayvec::ArrayVec;
-use card_image::CardImage;
-use ep_base::{Buf, FrameBuf, Wave};
+use ep_base::{FrameBuf, Wave};
 use ep_lanes::{Ask, End, EventList, Heard, Lanes, Medium, Open, Probe, RfFailed, Turned};
 use kernel_port::Scripts;
 use pre_processing::{Prepared, prepare};
-use rf_field::{APlan, CardPlan, Field};
 use std::alloc::Global;
 use std::process::Abort;
 use std::test::Fail;
@@ -20,54 +17,10 @@ use std::test::Fail;
 const SENT: &str =
     "52 500057cd 0500083973 52 9320 937001020304048e25 e0803173 0200a404000e325041592e5359532e444446303100e042 c2e0b4";
 
-fn combination() -> Combination
-    ensures { IsCombination result }
-{
-    Combination {
-        txn_type: 0,
-        aid: ArrayVec::try_from(b"\xa0\x00\x00\x00\x03\x10\x10".as_slice()).unwrap(),
-        kernel: 3,
-        status_check: false,
-        zero_allowed: None,
-        limit: None,
-        floor: None,
-        terminal_floor: None,
-        cvm: None,
-        extended: false,
-        ttq: None,
-    }
-}
-
 fn purchase(alloc: Global) -> Result<Prepared, Fail> {
     let mut list = Vec::new(alloc);
     list.push(combination())?;
     Ok(prepare(&Config::of_list(2, list), 0, 1000))
-}
-
-fn plan(image: CardImage) -> CardPlan
-    ensures { PlanFits result }
-{
-    let plan = APlan {
-        uid: ArrayVec::try_from(b"\x01\x02\x03\x04".as_slice()).unwrap(),
-        sak: 0x20,
-        fsci: 8,
-        fwi: 4,
-        historical: Buf::<15>::new(),
-    };
-    CardPlan::A(plan, image)
-}
-
-// A card without a directory, alone in a field.
-fn field(alloc: Global) -> Result<Field, Fail> {
-    let Ok(image) = CardImage::open(alloc, 1, Vec::new(alloc), Vec::new(alloc)) else {
-        return Err("memory".into());
-    };
-    let mut cards = Vec::new(alloc);
-    cards.push(plan(image))?;
-    let Ok(field) = Field::open(alloc, cards, Vec::new(alloc), Vec::new(alloc), 60) else {
-        return Err("memory".into());
-    };
-    Ok(field)
 }
 
 // Two lanes with the turn list 1, 1, 2, 1, each with the purchase open.
@@ -82,11 +35,8 @@ fn two_lanes(rt: &(impl Abort + AllocGlobal)) -> Result<Lanes<Scripts>, Fail> {
         let kernels = Scripts::of(Vec::new(rt.alloc()));
         assert!(rt; lanes.is_live(lane));
         assert!(rt; !lanes.has_open(lane));
-        assert_eq!(rt;
-            lanes.begin(lane, &prepared, kernels, 8, &mut events),
-            Turned::Goes
-        );
-        assert_eq!(rt; events.len(), 3);
+        assert!(rt; lanes.begin(lane, &prepared, kernels, 8, &mut events) == Turned::Goes);
+        assert!(rt; events.len() == 3);
     }
     assert!(rt; lanes.last().is_none());
     Ok(lanes)
@@ -152,7 +102,7 @@ fn run<P: Probe>(
         };
         let turned = turned.ok_or("a fault")?;
         let made = lanes.last().ok_or("no exchange")?;
-        assert_eq!(rt; made.lane, lane);
+        assert!(rt; made.lane == lane);
         let sent = hex::encode(rt.alloc(), made.ask.frame.as_slice())?;
         course.compare(lane, sent.as_str());
         course.take(lane, turned, &events);
@@ -168,13 +118,12 @@ fn run<P: Probe>(
 fn two_lanes_take_turns(rt: HostRuntime) -> Result<(), Fail> {
     let mut lanes = two_lanes(&rt)?;
     let course = run(&rt, &mut lanes, &mut Open)?;
-    assert_eq!(rt;
-        course.order.as_slice(),
-        [1, 1, 2, 1, 1, 2, 1, 2, 1, 2, 1, 2, 1, 2, 1, 2, 2, 2].as_slice()
+    assert!(rt;
+        course.order.as_slice() == [1, 1, 2, 1, 1, 2, 1, 2, 1, 2, 1, 2, 1, 2, 1, 2, 2, 2].as_slice()
     );
-    assert_eq!(rt; (course.usual, course.events), (18, 12));
-    assert_eq!(rt; course.ends, (Some(End::Done), Some(End::Done)));
-    assert_eq!(rt; lanes.next(), None);
+    assert!(rt; (course.usual, course.events) == (18, 12));
+    assert!(rt; course.ends == (Some(End::Done), Some(End::Done)));
+    assert!(rt; lanes.next() == None);
     Ok(())
 }
 
@@ -207,9 +156,9 @@ fn a_probe_breaks_a_link(rt: HostRuntime) -> Result<(), Fail> {
     let mut lanes = two_lanes(&rt)?;
     let mut deaf = Deaf { hearings: 0 };
     let course = run(&rt, &mut lanes, &mut deaf)?;
-    assert_eq!(rt; deaf.hearings, 19);
-    assert_eq!(rt; (course.order.len(), course.events), (19, 8));
-    assert_eq!(rt; course.ends, (Some(End::Link), Some(End::Done)));
+    assert!(rt; deaf.hearings == 19);
+    assert!(rt; (course.order.len(), course.events) == (19, 8));
+    assert!(rt; course.ends == (Some(End::Link), Some(End::Done)));
     Ok(())
 }
 
@@ -247,20 +196,14 @@ fn a_medium_fails(rt: HostRuntime) -> Result<(), Fail> {
     let mut field = field(rt.alloc())?;
     let mut events = EventList::new();
     let mut broken = Broken { faults: 0 };
-    assert_eq!(rt; lanes.next(), Some(1));
+    assert!(rt; lanes.next() == Some(1));
     assert!(rt; lanes.has_open(1));
-    assert_eq!(rt;
-        lanes.turn(1, &mut broken, &mut Open, &mut events),
-        Err(RfFailed)
-    );
+    assert!(rt; lanes.turn(1, &mut broken, &mut Open, &mut events) == Err(RfFailed));
     assert!(rt; lanes.last().is_none());
-    assert_eq!(rt; lanes.next(), Some(2));
+    assert!(rt; lanes.next() == Some(2));
     assert!(rt; lanes.has_open(2));
     assert!(rt; events.is_empty());
-    assert_eq!(rt;
-        lanes.turn(2, &mut field, &mut Open, &mut events),
-        Ok(Turned::Goes)
-    );
-    assert_eq!(rt; lanes.next(), Some(2));
+    assert!(rt; lanes.turn(2, &mut field, &mut Open, &mut events) == Ok(Turned::Goes));
+    assert!(rt; lanes.next() == Some(2));
     Ok(())
 }

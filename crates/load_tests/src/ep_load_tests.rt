@@ -11,30 +11,27 @@ use std::test::Fail;
 
 /// A card of Type A with the first Combination's application, and no S(WTX).
 fn check_card(rt: &impl Abort, transaction: &Transaction) {
-    assert_eq!(rt; transaction.cards.len(), 1);
+    assert!(rt; transaction.cards.len() == 1);
     for card in &transaction.cards {
         match &card.plan {
             TypePlan::A(plan) => {
-                assert_eq!(rt; plan.uid.as_slice(), b"\x08\x00\x00\x01".as_slice());
-                assert_eq!(rt; (plan.sak, plan.fsci, plan.fwi), (0x20, 1, 4));
+                assert!(rt; plan.uid.as_slice() == b"\x08\x00\x00\x01".as_slice());
+                assert!(rt; (plan.sak, plan.fsci, plan.fwi) == (0x20, 1, 4));
             }
             TypePlan::B(_) => assert!(rt; false),
         }
         for response in &card.ppse {
             let wanted =
                 b"\x6f\x23\x84\x0e2PAY.SYS.DDF01\xa5\x11\xbf\x0c\x0e\x61\x0c\x4f\x07\xa0\x00\x00\x00\x03\x10\x10\x87\x01\x01\x90\x00";
-            assert_eq!(rt; response.bytes(), wanted.as_slice());
+            assert!(rt; response.bytes() == wanted.as_slice());
         }
         for app in &card.apps {
-            assert_eq!(rt;
-                app.name.as_slice(),
-                b"\xa0\x00\x00\x00\x03\x10\x10".as_slice()
-            );
+            assert!(rt; app.name.as_slice() == b"\xa0\x00\x00\x00\x03\x10\x10".as_slice());
             for rule in &app.rules {
-                assert_eq!(rt; (rule.wtx, rule.wtxm), (0, 1));
+                assert!(rt; (rule.wtx, rule.wtxm) == (0, 1));
             }
         }
-        assert_eq!(rt; (card.ppse.len(), card.apps.len()), (1, 1));
+        assert!(rt; (card.ppse.len(), card.apps.len()) == (1, 1));
     }
 }
 
@@ -54,9 +51,9 @@ fn check_fates(rt: &impl Abort, transaction: &Transaction) {
         FateRun::Clean(3),
         FateRun::One(frame_lost),
     ];
-    assert_eq!(rt; transaction.fates.len(), 4);
+    assert!(rt; transaction.fates.len() == 4);
     for (found, wanted) in transaction.fates.iter().zip(&wanted) {
-        assert_eq!(rt; *found, *wanted);
+        assert!(rt; *found == *wanted);
     }
 }
 
@@ -70,21 +67,21 @@ fn check_scripts(rt: &impl Abort, transaction: &Transaction) {
         kind: OutcomeKind::Approved,
         message: Some(Message::Approved),
     };
-    assert_eq!(rt; transaction.scripts.len(), 2);
+    assert!(rt; transaction.scripts.len() == 2);
     for (script, wanted) in transaction.scripts.iter().zip(&[again, approved]) {
-        assert_eq!(rt; (script.kernel, script.steps.len()), (3, 1));
-        assert_eq!(rt; script.outcome, *wanted);
+        assert!(rt; (script.kernel, script.steps.len()) == (3, 1));
+        assert!(rt; script.outcome == *wanted);
     }
 }
 
 #[test]
 fn one_transaction_of_seed_1(rt: HostRuntime) -> Result<(), Fail> {
     let document = plan(rt.alloc(), 1, 1)?;
-    assert_eq!(rt; document.lanes.len(), 1);
+    assert!(rt; document.lanes.len() == 1);
     for lane in &document.lanes {
-        assert_eq!(rt; lane.len(), 1);
+        assert!(rt; lane.len() == 1);
         for transaction in lane {
-            assert_eq!(rt; (transaction.txn_type, transaction.amount), (0, 6938));
+            assert!(rt; (transaction.txn_type, transaction.amount) == (0, 6938));
             assert!(rt; transaction.presence.is_empty());
             check_card(&rt, transaction);
             check_fates(&rt, transaction);
@@ -97,16 +94,16 @@ fn one_transaction_of_seed_1(rt: HostRuntime) -> Result<(), Fail> {
 #[test]
 fn scenario_of_seed_1(rt: HostRuntime) -> Result<(), Fail> {
     let scenario = generate(rt.alloc(), 1, 1)?;
-    assert_eq!(rt; (scenario.config.exponent(), scenario.fsdi), (2, 8));
-    assert_eq!(rt; scenario.config.list().len(), 3);
+    assert!(rt; (scenario.config.exponent(), scenario.fsdi) == (2, 8));
+    assert!(rt; scenario.config.list().len() == 3);
     assert!(rt; scenario.turns.is_empty());
     assert!(rt; scenario.trace.is_none());
-    assert_eq!(rt; scenario.lanes.len(), 1);
+    assert!(rt; scenario.lanes.len() == 1);
     for lane in &scenario.lanes {
-        assert_eq!(rt; lane.len(), 1);
+        assert!(rt; lane.len() == 1);
         for job in lane {
-            assert_eq!(rt; (job.txn_type, job.amount), (0, 6938));
-            assert_eq!(rt; job.field.exchanges(), 0);
+            assert!(rt; (job.txn_type, job.amount) == (0, 6938));
+            assert!(rt; job.field.exchanges() == 0);
         }
     }
     Ok(())
@@ -115,9 +112,9 @@ fn scenario_of_seed_1(rt: HostRuntime) -> Result<(), Fail> {
 #[test]
 fn four_hundred_transactions(rt: HostRuntime) -> Result<(), Fail> {
     let scenario = generate(rt.alloc(), 7, 400)?;
-    assert_eq!(rt; scenario.lanes.len(), 8);
+    assert!(rt; scenario.lanes.len() == 8);
     for lane in &scenario.lanes {
-        assert_eq!(rt; lane.len(), 50);
+        assert!(rt; lane.len() == 50);
     }
     Ok(())
 }
@@ -133,9 +130,8 @@ fn lanes_of_seed_7(rt: HostRuntime) -> Result<(), Fail> {
         }
         amounts.push_str("| ")?;
     }
-    assert_eq!(rt;
-        amounts.as_str(),
-        "9664 9704 | 8085 5380 | 4285 | 8161 | 6918 | 155 | 5550 | 1286 | "
+    assert!(rt;
+        amounts.as_str() == "9664 9704 | 8085 5380 | 4285 | 8161 | 6918 | 155 | 5550 | 1286 | "
     );
     Ok(())
 }

@@ -33,21 +33,20 @@ fn free_room_in_pieces(rt: HostRuntime) {
     assert!(rt; holds(&arena, second, &[2; 30]));
     assert!(rt; holds(&arena, third, &[3; 34]));
     assert!(rt; arena.get(first).is_none());
-    assert_eq!(rt; arena.put(1, 1, &[0]), Err(Full { live: 64, slots: 2 }));
-    assert_eq!(rt; arena.replace(first, &[]), Err(ReplaceEnd::Gone));
-    assert_eq!(rt;
-        arena.replace(second, &[4; 31]),
-        Err(ReplaceEnd::Full(Full { live: 64, slots: 2 }))
+    assert!(rt; arena.put(1, 1, &[0]) == Err(Full { live: 64, slots: 2 }));
+    assert!(rt; arena.replace(first, &[]) == Err(ReplaceEnd::Gone));
+    assert!(rt;
+        arena.replace(second, &[4; 31]) == Err(ReplaceEnd::Full(Full { live: 64, slots: 2 }))
     );
-    assert_eq!(rt; arena.replace(second, &[4; 29]), Ok(()));
-    assert_eq!(rt; arena.find(2, 0x84), Some(third));
-    assert_eq!(rt; arena.drop_group(1), 1);
-    assert_eq!(rt; arena.live_slots(), 1);
+    assert!(rt; arena.replace(second, &[4; 29]) == Ok(()));
+    assert!(rt; arena.find(2, 0x84) == Some(third));
+    assert!(rt; arena.drop_group(1) == 1);
+    assert!(rt; arena.live_slots() == 1);
     arena.relocate();
     assert!(rt; holds(&arena, third, &[3; 34]));
-    assert_eq!(rt; arena.block().len(), 34);
+    assert!(rt; arena.block().len() == 34);
     arena.clear();
-    assert_eq!(rt; arena.live_bytes(), 0);
+    assert!(rt; arena.live_bytes() == 0);
 }
 
 #[test]
@@ -66,16 +65,16 @@ fn many_guests_beside_one_that_stays(rt: HostRuntime) {
     assert!(rt; holds(&arena, stays, &[1; 256]));
     let large = arena.put(3, 4, &[3; 768]).ok().expect(&rt, "768 bytes fit");
     assert!(rt; holds(&arena, large, &[3; 768]));
-    assert_eq!(rt; arena.block().cap(), 1024);
-    assert_eq!(rt; arena.place(stays), Some(0));
-    assert_eq!(rt; arena.place(large), Some(256));
-    assert_eq!(rt; arena.replace(stays, &[4; 250]), Ok(()));
+    assert!(rt; arena.block().cap() == 1024);
+    assert!(rt; arena.place(stays) == Some(0));
+    assert!(rt; arena.place(large) == Some(256));
+    assert!(rt; arena.replace(stays, &[4; 250]) == Ok(()));
     assert!(rt; arena.remove(large));
-    assert_eq!(rt; arena.place(large), None);
+    assert!(rt; arena.place(large) == None);
     arena.relocate();
-    assert_eq!(rt; arena.place(stays), Some(0));
-    assert_eq!(rt; arena.block().len(), 250);
-    assert_eq!(rt; arena.live_bytes(), 250);
+    assert!(rt; arena.place(stays) == Some(0));
+    assert!(rt; arena.block().len() == 250);
+    assert!(rt; arena.live_bytes() == 250);
     assert!(rt; arena.block().view(0, 250) == [4; 250].as_slice());
 }
 
@@ -102,8 +101,8 @@ fn a_list_of_calls(rt: HostRuntime) {
             id: ObjId { serial: 0 },
         },
     ]);
-    assert_eq!(rt; arena.find(2, 0x50), Some(ObjId { serial: 1 }));
+    assert!(rt; arena.find(2, 0x50) == Some(ObjId { serial: 1 }));
     assert!(rt; holds(&arena, ObjId { serial: 1 }, &[3; 34]));
     arena.make_all(&[ArenaCall::DropGroup { group: 2 }, ArenaCall::Clear]);
-    assert_eq!(rt; arena.live_slots(), 0);
+    assert!(rt; arena.live_slots() == 0);
 }

@@ -80,12 +80,12 @@ fn check_purchase(rt: &(impl Abort + AllocGlobal), row: &Row<'_>, line: &str) ->
         Ran::Ended(_) => {}
         Ran::Device | Ran::EventsFailed => return Err("a fault".into()),
     }
-    assert_eq!(rt; report.text.as_str(), row.report(rt)?.as_str(), "{line}");
+    assert!(rt; report.text.as_str() == row.report(rt)?.as_str(), "{line}");
     let field = transport.medium();
     let executed = field.log().records().len();
     let exchanges = field.exchanges();
     let found = format!(in rt.alloc(); "{executed} {exchanges}")?;
-    assert_eq!(rt; found.as_str(), row.numbers, "{line}");
+    assert!(rt; found.as_str() == row.numbers, "{line}");
     Ok(())
 }
 

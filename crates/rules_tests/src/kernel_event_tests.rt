@@ -70,12 +70,12 @@ fn finish<E: Events>(events: &mut E) -> Result<(), EventsFailed>
 #[test]
 fn takers_of_events(rt: HostRuntime) -> Result<(), Fail> {
     let mut few = Few { left: 3, faults: 0 };
-    assert_eq!(rt; finish(&mut few), Ok(()));
-    assert_eq!(rt; finish(&mut few), Err(EventsFailed));
+    assert!(rt; finish(&mut few) == Ok(()));
+    assert!(rt; finish(&mut few) == Err(EventsFailed));
     let mut count = 0;
     let mut counted = Counted { count: &mut count };
-    assert_eq!(rt; finish(&mut counted), Ok(()));
-    assert_eq!(rt; count, 2);
+    assert!(rt; finish(&mut counted) == Ok(()));
+    assert!(rt; count == 2);
     Ok(())
 }
 

@@ -161,10 +161,10 @@ fn check_part(rt: &(impl Abort + AllocGlobal), part: &str) -> Result<(), Fail> {
     for one in prepared.list() {
         found.push_str(found_of(rt, one)?.as_str())?;
     }
-    assert_eq!(rt; found.as_str(), wanted.as_str(), "{part}");
+    assert!(rt; found.as_str() == wanted.as_str(), "{part}");
     let some_allowed = wanted.as_str().lines().any(|line| line.starts_with('1'));
-    assert_eq!(rt; prepared.any_allowed(), some_allowed, "{part}");
-    assert_eq!(rt; (prepared.txn_type(), prepared.amount()), (0, amount));
+    assert!(rt; prepared.any_allowed() == some_allowed, "{part}");
+    assert!(rt; (prepared.txn_type(), prepared.amount()) == (0, amount));
     Ok(())
 }
 

@@ -259,8 +259,8 @@ fn check_part(rt: &(impl Abort + AllocGlobal), part: &str, selects: bool) -> Res
         found.push_str(one.as_str())?;
         at.candidates.remove_current();
     }
-    assert_eq!(rt; found.as_str(), wanted.as_str(), "{part}");
-    assert_eq!(rt; at.candidates.len(), 0, "{part}");
+    assert!(rt; found.as_str() == wanted.as_str(), "{part}");
+    assert!(rt; at.candidates.len() == 0, "{part}");
     assert!(rt; found_of(rt, &at, selects).is_none(), "{part}");
     Ok(())
 }

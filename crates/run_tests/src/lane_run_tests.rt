@@ -1,20 +1,16 @@
 //! Two lanes over real fields: what no clause says is the whole text of a run, that memory can be had, and where a sink that
 //! fails leaves the report.
 ghost use Rattle.std.specs.Prelude.{◌≡◌, ◌≤◌, All, IfOk, length, vec_len};
-ghost use Rattle.ep_rules.specs.EntryPoint.Configuration.{IsCombination};
 ghost use Rattle.ep_lanes.specs.Lanes.{new_lanes};
-ghost use Rattle.rf_field.specs.Plans.{PlanFits};
 ghost use Rattle.lane_run.specs.Reports.{IsFew, IsNewWork};
 ghost use Rattle.ep_lanes.specs.Scripted.{held_of};
 
-use acquirer_config::{Combination, Config};
-use arrayvec::ArrayVec;
-use card_image::CardImage;
-use ep_base::{Buf, MemorySink};
+use acquirer_config::Config;
+use ep_base::MemorySink;
 use ep_lanes::{Lanes, Open};
 use lane_run::{LaneJobs, report_lanes, works_of};
-use rf_field::{APlan, CardPlan};
-use scenario::{Field, Job, Scripts};
+use lane_tests::{combination, field};
+use scenario::{Job, Scripts};
 use std::alloc::Global;
 use std::test::Fail;
 
@@ -113,50 +109,6 @@ x 1 A c2e0b4 16 =c2e0b4
 1.2 log 1 00a404000e325041592e5359532e444446303100
 ";
 
-pub(crate) fn combination() -> Combination
-    ensures { IsCombination result }
-{
-    Combination {
-        txn_type: 0,
-        aid: ArrayVec::try_from(b"\xa0\x00\x00\x00\x03\x10\x10".as_slice()).unwrap(),
-        kernel: 3,
-        status_check: false,
-        zero_allowed: None,
-        limit: None,
-        floor: None,
-        terminal_floor: None,
-        cvm: None,
-        extended: false,
-        ttq: None,
-    }
-}
-
-fn plan(image: CardImage) -> CardPlan
-    ensures { PlanFits result }
-{
-    let plan = APlan {
-        uid: ArrayVec::try_from(b"\x01\x02\x03\x04".as_slice()).unwrap(),
-        sak: 0x20,
-        fsci: 8,
-        fwi: 4,
-        historical: Buf::<15>::new(),
-    };
-    CardPlan::A(plan, image)
-}
-
-// A card without a directory, alone in a field.
-fn field(alloc: Global) -> Result<Field, Fail> {
-    let Ok(image) = CardImage::open(alloc, 1, Vec::new(alloc), Vec::new(alloc)) else {
-        return Err("memory".into());
-    };
-    let mut cards = Vec::new(alloc);
-    cards.push(plan(image))?;
-    let Ok(field) = Field::open(alloc, cards, Vec::new(alloc), Vec::new(alloc), 60) else {
-        return Err("memory".into());
-    };
-    Ok(field)
-}
-
 // A purchase over that field, with no kernel.
 fn job(alloc: Global, config: &Config) -> Result<Job, Fail>
     ensures { IfOk result (λ job. IsFew config.now job) }
@@ -215,7 +167,7 @@ fn report(alloc: Global, traced: bool, fails: Vec<u32>) -> Result<(bool, MemoryS
 fn lanes_are_reported_as_they_run(rt: HostRuntime) -> Result<(), Fail> {
     let (whole, sink) = report(rt.alloc(), false, Vec::new(rt.alloc()))?;
     assert!(rt; whole);
-    assert_eq!(rt; sink.written(), REPORT.as_bytes());
+    assert!(rt; sink.written() == REPORT.as_bytes());
     Ok(())
 }
 
@@ -223,7 +175,7 @@ fn lanes_are_reported_as_they_run(rt: HostRuntime) -> Result<(), Fail> {
 fn each_exchange_is_traced(rt: HostRuntime) -> Result<(), Fail> {
     let (whole, sink) = report(rt.alloc(), true, Vec::new(rt.alloc()))?;
     assert!(rt; whole);
-    assert_eq!(rt; sink.written(), TRACED.as_bytes());
+    assert!(rt; sink.written() == TRACED.as_bytes());
     Ok(())
 }
 
@@ -234,7 +186,7 @@ fn a_sink_fails_at_a_line(rt: HostRuntime) -> Result<(), Fail> {
         let (whole, sink) = report(rt.alloc(), false, fails)?;
         assert!(rt; !whole);
         let written = sink.written();
-        assert_eq!(rt; written.iter().filter(|byte| **byte == 10).count(), lines);
+        assert!(rt; written.iter().filter(|byte| **byte == 10).count() == lines);
         assert!(rt; REPORT.as_bytes().starts_with(written));
     }
     Ok(())

@@ -2,11 +2,12 @@
 //! of a mismatch, and that memory can be had.
 ghost use Rattle.std.specs.Prelude.{◌≡◌, ◌≤◌, All, IfOk, length};
 
-use crate::lane_run_tests::{REPORT, TRACED, combination, works};
+use crate::lane_run_tests::{REPORT, TRACED, works};
 use acquirer_config::Config;
 use ep_base::{Line, MemorySink};
 use ep_lanes::Lanes;
 use lane_run::{ReplayEnd, replay_lanes};
+use lane_tests::combination;
 use scenario::Scripts;
 use std::alloc::AllocGlobal;
 use std::process::Abort;
@@ -93,11 +94,10 @@ fn check(
 ) -> Result<(), Fail> {
     let events = events(rt)?;
     let (said, sink) = replay(rt, lines, fails)?;
-    assert_eq!(rt; said.as_str(), end);
+    assert!(rt; said.as_str() == end);
     let written = sink.written();
-    assert_eq!(rt;
-        written.iter().filter(|byte| **byte == 10).count(),
-        many,
+    assert!(rt;
+        written.iter().filter(|byte| **byte == 10).count() == many,
         "{end}"
     );
     assert!(rt; events.as_bytes().starts_with(written), "{end}");

@@ -91,7 +91,7 @@ fn told_in(rt: &(impl Abort + AllocGlobal), text: &str) -> Result<String, Fail> 
 fn cards(rt: HostRuntime) -> Result<(), Fail> {
     for line in TABLE.lines() {
         let (text, wanted) = line.split_once(" => ").expect(&rt, line);
-        assert_eq!(rt; told_in(&rt, text)?.as_str(), wanted, "{line}");
+        assert!(rt; told_in(&rt, text)?.as_str() == wanted, "{line}");
     }
     Ok(())
 }

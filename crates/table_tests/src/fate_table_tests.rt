@@ -113,7 +113,7 @@ fn fates(rt: HostRuntime) -> Result<(), Fail> {
     for row in FATES.lines().skip(1) {
         let (document, wanted) = row.split_once(" => ").expect(&rt, row);
         let found = told_fates(&rt, spelled(&rt, document)?.as_str())?;
-        assert_eq!(rt; found.as_str(), spelled(&rt, wanted)?.as_str(), "{row}");
+        assert!(rt; found.as_str() == spelled(&rt, wanted)?.as_str(), "{row}");
     }
     Ok(())
 }
@@ -125,7 +125,7 @@ fn cards_that_are_present(rt: HostRuntime) -> Result<(), Fail> {
         let (document, wanted) = rest.split_once(" => ").expect(&rt, row);
         let cards: usize = cards.parse().ok().expect(&rt, row);
         let found = told_lists(&rt, spelled(&rt, document)?.as_str(), cards)?;
-        assert_eq!(rt; found.as_str(), spelled(&rt, wanted)?.as_str(), "{row}");
+        assert!(rt; found.as_str() == spelled(&rt, wanted)?.as_str(), "{row}");
     }
     Ok(())
 }

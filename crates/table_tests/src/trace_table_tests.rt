@@ -57,7 +57,7 @@ fn traces(rt: HostRuntime) -> Result<(), Fail> {
     for row in TRACES.lines().skip(1) {
         let (document, wanted) = row.split_once(" => ").expect(&rt, row);
         let found = told_trace(&rt, spelled(&rt, document)?.as_str())?;
-        assert_eq!(rt; found.as_str(), wanted, "{row}");
+        assert!(rt; found.as_str() == wanted, "{row}");
     }
     Ok(())
 }

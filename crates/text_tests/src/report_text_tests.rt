@@ -32,7 +32,7 @@ fn is_shown(rt: &impl Abort, event: &Event, head: &str, want: &str) {
         .strip_prefix("8.64 ")
         .expect(rt, "the numbers of lane and transaction");
     let rest = rest.strip_prefix(head).expect(rt, "the word of the event");
-    assert_eq!(rt; rest.strip_suffix("\n"), Some(want));
+    assert!(rt; rest.strip_suffix("\n") == Some(want));
 }
 
 fn buffer<const N: usize>(rt: &impl Abort, bytes: &[u8]) -> Buf<N> {
@@ -134,7 +134,7 @@ fn words_of_messages(rt: HostRuntime) {
         Message::TryAnotherCard,
         Message::PresentAgain,
     ];
-    assert_eq!(rt; MESSAGES.lines().count(), messages.len());
+    assert!(rt; MESSAGES.lines().count() == messages.len());
     for (message, want) in messages.iter().zip(MESSAGES.lines()) {
         is_shown(&rt, &Event::Message(*message), "message ", want);
     }
@@ -151,7 +151,7 @@ fn words_of_outcomes(rt: HostRuntime) {
         OutcomeKind::TryAnother,
         OutcomeKind::EndApplication,
     ];
-    assert_eq!(rt; OUTCOMES.lines().count(), kinds.len());
+    assert!(rt; OUTCOMES.lines().count() == kinds.len());
     for (kind, want) in kinds.iter().zip(OUTCOMES.lines()) {
         is_shown(&rt, &Event::Outcome(*kind), "outcome ", want);
     }
@@ -160,7 +160,7 @@ fn words_of_outcomes(rt: HostRuntime) {
 #[test]
 fn words_of_ends(rt: HostRuntime) {
     let ends = [End::Done, End::Link, End::NoCard, End::Breach];
-    assert_eq!(rt; ENDS.lines().count(), ends.len());
+    assert!(rt; ENDS.lines().count() == ends.len());
     for (end, want) in ends.iter().zip(ENDS.lines()) {
         is_shown(&rt, &Event::End(*end), "end ", want);
     }
@@ -229,7 +229,7 @@ fn the_longest_line(rt: HostRuntime) {
     let event = answered(&rt, &[0xff; COMMAND], &[0xff; RESPONSE]);
     let mut line = Line::new();
     line_of(255, 255, &event, &mut line);
-    assert_eq!(rt; line.len(), 1053);
+    assert!(rt; line.len() == 1053);
 }
 
 #[test]
@@ -240,7 +240,7 @@ fn records_of_a_log(rt: HostRuntime) {
     };
     let mut line = Line::new();
     log_line(1, 12, &entry, &mut line);
-    assert_eq!(rt; line.as_str(), "1.12 log 4 80a8000002830000\n");
+    assert!(rt; line.as_str() == "1.12 log 4 80a8000002830000\n");
 }
 
 /// The path and the number of the faults below, and after `=>` what is said.
@@ -263,7 +263,7 @@ fn is_said(rt: &impl Abort, kind: DocKind, row: &str) {
     let mut line = Line::new();
     document_fault(&DocFault { kind, path, number }, &mut line);
     let said = line.as_str().strip_prefix("ep_program: bad document: ");
-    assert_eq!(rt; said, Some(want));
+    assert!(rt; said == Some(want));
 }
 
 #[test]
@@ -278,7 +278,7 @@ fn faults_of_documents(rt: HostRuntime) {
         DocKind::Conflict,
         DocKind::Conflict,
     ];
-    assert_eq!(rt; FAULTS.lines().count(), kinds.len());
+    assert!(rt; FAULTS.lines().count() == kinds.len());
     for (kind, row) in kinds.iter().zip(FAULTS.lines()) {
         is_said(&rt, *kind, row);
     }

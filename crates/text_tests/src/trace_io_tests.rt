@@ -54,7 +54,7 @@ fn lines_both_ways(rt: HostRuntime) -> Result<(), Fail> {
         let line = read_trace_line(text).ok_or("not a trace line")?;
         let mut out = Line::new();
         trace_line(&line, &mut out);
-        assert_eq!(rt; out.as_str().strip_suffix("\n"), Some(text));
+        assert!(rt; out.as_str().strip_suffix("\n") == Some(text));
     }
     Ok(())
 }
@@ -74,22 +74,22 @@ fn what_lines_say(rt: HostRuntime) -> Result<(), Fail> {
             bytes: framed(b"\x01\x02\x03\x04\x04")?,
         },
     };
-    assert_eq!(rt; line, want);
+    assert!(rt; line == want);
     let wake = read_trace_line("x 1 S 52 0 =0400").ok_or("not a trace line")?;
     let atqa = Heard::Frame {
         wave: Wave::ABare,
         bytes: framed(b"\x04\x00")?,
     };
-    assert_eq!(rt; wake.heard, atqa);
+    assert!(rt; wake.heard == atqa);
     let lower = read_trace_line("x 1 A c2e0b4 16 =c2e0b4").ok_or("not a trace line")?;
     let upper = read_trace_line("x 1 A C2E0b4 16 =c2E0B4").ok_or("not a trace line")?;
-    assert_eq!(rt; lower, upper);
+    assert!(rt; lower == upper);
     Ok(())
 }
 
 #[test]
 fn texts_that_are_no_lines(rt: HostRuntime) {
-    assert_eq!(rt; REFUSED.split('|').count(), 22);
+    assert!(rt; REFUSED.split('|').count() == 22);
     for text in REFUSED.split('|') {
         assert!(rt; read_trace_line(text).is_none(), "{text:?}");
     }
@@ -111,7 +111,7 @@ fn the_longest_line(rt: HostRuntime) -> Result<(), Fail> {
     };
     let mut out = Line::new();
     trace_line(&line, &mut out);
-    assert_eq!(rt; out.len(), 1046);
+    assert!(rt; out.len() == 1046);
     Ok(())
 }
 
@@ -119,11 +119,11 @@ fn the_longest_line(rt: HostRuntime) -> Result<(), Fail> {
 fn a_run_that_is_its_trace(rt: HostRuntime) -> Result<(), Fail> {
     let mut replay = Replay::of(trace(rt.alloc(), TRACE)?);
     for line in trace(rt.alloc(), TRACE)?.iter() {
-        assert_eq!(rt; replay.reset(), Ok(()));
+        assert!(rt; replay.reset() == Ok(()));
         let heard = replay.send(line.sent.wave, &line.sent.frame, line.sent.wait);
-        assert_eq!(rt; heard, Ok(line.heard.copy()));
+        assert!(rt; heard == Ok(line.heard.copy()));
     }
-    assert_eq!(rt; replay.finish(), Ok(()));
+    assert!(rt; replay.finish() == Ok(()));
     assert!(rt; replay.mismatch().is_none());
     Ok(())
 }
@@ -135,10 +135,10 @@ fn a_run_with_another_frame(rt: HostRuntime) -> Result<(), Fail> {
     let halt = framed(b"\x50\x00\x57\xce")?;
     assert!(rt; replay.send(Wave::AShort, &wake, 0).is_ok());
     replay.at(2);
-    assert_eq!(rt; replay.send(Wave::A, &halt, 0), Err(RfFailed));
+    assert!(rt; replay.send(Wave::A, &halt, 0) == Err(RfFailed));
     let right = framed(b"\x50\x00\x57\xcd")?;
-    assert_eq!(rt; replay.send(Wave::A, &right, 0), Err(RfFailed));
-    assert_eq!(rt; replay.finish(), Err(RfFailed));
+    assert!(rt; replay.send(Wave::A, &right, 0) == Err(RfFailed));
+    assert!(rt; replay.finish() == Err(RfFailed));
     let mismatch = replay.mismatch().ok_or("no mismatch")?;
     let wanted = Shown {
         lane: 2,
@@ -152,9 +152,9 @@ fn a_run_with_another_frame(rt: HostRuntime) -> Result<(), Fail> {
         frame: halt,
         wait: 0,
     };
-    assert_eq!(rt; mismatch.place, 2);
-    assert_eq!(rt; mismatch.wanted, Some(wanted));
-    assert_eq!(rt; mismatch.got, Some(got));
+    assert!(rt; mismatch.place == 2);
+    assert!(rt; mismatch.wanted == Some(wanted));
+    assert!(rt; mismatch.got == Some(got));
     Ok(())
 }
 
@@ -167,9 +167,9 @@ fn check_differs(
 ) -> Result<(), Fail> {
     let mut replay = Replay::of(trace(rt.alloc(), "x 1 S 52 0 -")?);
     replay.at(lane);
-    assert_eq!(rt; replay.send(wave, &framed(b"\x52")?, wait), Err(RfFailed));
+    assert!(rt; replay.send(wave, &framed(b"\x52")?, wait) == Err(RfFailed));
     let mismatch = replay.mismatch().ok_or("no mismatch")?;
-    assert_eq!(rt; mismatch.place, 1);
+    assert!(rt; mismatch.place == 1);
     Ok(())
 }
 
@@ -190,20 +190,20 @@ fn a_trace_and_a_run_of_other_lengths(rt: HostRuntime) -> Result<(), Fail> {
         wait: 0,
     };
     let mut left = Replay::of(trace(rt.alloc(), "x 1 S 52 0 -")?);
-    assert_eq!(rt; left.finish(), Err(RfFailed));
+    assert!(rt; left.finish() == Err(RfFailed));
     let first = Mismatch {
         place: 1,
         wanted: Some(shown.copy()),
         got: None,
     };
-    assert_eq!(rt; left.mismatch(), Some(&first));
+    assert!(rt; left.mismatch() == Some(&first));
     let mut over = Replay::of(Vec::new(rt.alloc()));
-    assert_eq!(rt; over.send(Wave::AShort, &wake, 0), Err(RfFailed));
+    assert!(rt; over.send(Wave::AShort, &wake, 0) == Err(RfFailed));
     let first = Mismatch {
         place: 1,
         wanted: None,
         got: Some(shown),
     };
-    assert_eq!(rt; over.mismatch(), Some(&first));
+    assert!(rt; over.mismatch() == Some(&first));
     Ok(())
 }

@@ -71,7 +71,7 @@ fn check_row(rt: &(impl Abort + AllocGlobal), row: &str) -> Result<(), Fail> {
     )?;
     let document = spelled(rt, document.as_str())?;
     let found = told_of(rt, &read(rt, document.as_str()))?;
-    assert_eq!(rt; found.as_str(), spelled(rt, wanted)?.as_str(), "{row}");
+    assert!(rt; found.as_str() == spelled(rt, wanted)?.as_str(), "{row}");
     Ok(())
 }
 
@@ -82,22 +82,22 @@ fn values_that_are_read(rt: HostRuntime) -> Result<(), Fail> {
     }
     // Bytes that are no text.
     let end = end_of(&rt, b"version = '\xff'")?;
-    assert_eq!(rt; end.as_str(), "NotToml");
+    assert!(rt; end.as_str() == "NotToml");
     Ok(())
 }
 
 #[test]
 fn a_transaction_before_its_first_round(rt: HostRuntime) -> Result<(), Fail> {
     let scenario = read(&rt, DOCUMENT);
-    assert_eq!(rt; scenario.lanes.len(), 1);
+    assert!(rt; scenario.lanes.len() == 1);
     let lane = scenario.lanes.first().expect(&rt, "a lane");
-    assert_eq!(rt; lane.len(), 1);
+    assert!(rt; lane.len() == 1);
     let job = lane.first().expect(&rt, "a transaction");
-    assert_eq!(rt; (job.txn_type, job.amount), (0, 1000));
+    assert!(rt; (job.txn_type, job.amount) == (0, 1000));
     let field = &job.field;
     let before = (field.rounds(), field.exchanges(), field.gone());
-    assert_eq!(rt; before, (0, 0, false));
+    assert!(rt; before == (0, 0, false));
     // One script with one step, and no Combination of the type: two SELECT PPSE, a step, and one more.
-    assert_eq!(rt; (field.log().spare(), field.log().records().len()), (4, 0));
+    assert!(rt; (field.log().spare(), field.log().records().len()) == (4, 0));
     Ok(())
 }

@@ -63,8 +63,8 @@ fn a_load_comes_to_one_line(rt: HostRuntime) -> Result<(), Fail> {
 fn the_input_is_left_alone(rt: HostRuntime) -> Result<(), Fail> {
     let mut left = run(&rt, "/load/1/1", b"a=", &[1], &[])?;
     let mut first = [0u8; 8];
-    assert_eq!(rt; left.source.pull(&mut first), Pulled::Failed);
+    assert!(rt; left.source.pull(&mut first) == Pulled::Failed);
     let rest = read_all(rt.alloc(), &mut left.source, 8).map_err(|_| "rest")?;
-    assert_eq!(rt; rest.as_slice(), b"a=".as_slice());
+    assert!(rt; rest.as_slice() == b"a=".as_slice());
     Ok(())
 }
