@@ -7,7 +7,7 @@ ghost use Rattle.ep_rules.specs.EntryPoint.Transaction.{transaction};
 ghost use Rattle.ep_rules.specs.EntryPoint.Talk.{Talk};
 ghost use Rattle.ep_rules.specs.EntryPoint.TransportRun.{Runs};
 ghost use Rattle.ep_claim.specs.Lanes.Standing.{Standing, after_hearing, events_of, started};
-ghost use Rattle.law_run.specs.Heard.{RanBy};
+ghost use Rattle.ep_rules.specs.EntryPoint.Became.{RanBy};
 ghost use Rattle.poll_activate.specs.Meaning.{ends_of};
 ghost use Rattle.rf_frame.specs.Meaning.{heard_of};
 ghost use Rattle.session_phases.specs.Shown.{kept_of, kept_then};

@@ -1,4 +1,5 @@
 -- Cards.
+pub mod Inside
 pub mod Lawful
 pub mod Activation
 pub mod Apdu
@@ -7,6 +8,7 @@ pub mod CardLimits
 pub mod Direct
 pub mod Field
 pub mod Images
+pub mod LinkedField
 pub mod Numbers
 pub mod TypeA
 pub mod TypeB

@@ -12,6 +12,7 @@ pub mod Turning
 pub mod WholeRun
 pub mod Exchanges
 pub mod Limits
+pub mod ShortLanes
 pub mod Standing
 pub mod ReplayRun
 pub mod Steps

@@ -1,4 +1,5 @@
 -- EntryPoint.
+pub mod Became
 pub mod Bounds
 pub mod Candidates
 pub mod Configuration
@@ -7,6 +8,7 @@ pub mod EventSteps
 pub mod Kernel
 pub mod KernelCommands
 pub mod KernelCounts
+pub mod OverChannel
 pub mod Perfect
 pub mod PreProcessing
 pub mod Talk

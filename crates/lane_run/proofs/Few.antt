@@ -7,7 +7,7 @@ use Rattle.ep_base.specs.declared.limits.TheConstants.{LANES, STEPS, TRANSACTION
 use Rattle.ep_rules.specs.EntryPoint.Configuration.{Combination, Config, count_of}
 use Rattle.ep_rules.specs.EntryPoint.Kernel.{Script, steps_left, running_left, running_count}
 use Rattle.ep_rules.specs.EntryPoint.PreProcessing.{prepared, prepared_one}
-use Rattle.law_turns.specs.Growing.{IsShort, IsShortLane, AreShort}
+use Rattle.ep_claim.specs.Lanes.ShortLanes.{IsShort, IsShortLane, AreShort}
 use Rattle.ep_claim.specs.Lanes.LaneText.{Job}
 use Rattle.scenario.specs.Jobs.{job_of, talk_in}
 use Rattle.scenario.specs.Scenario.{Work}

@@ -7,7 +7,8 @@ use Rattle.ep_claim.specs.Lanes.Ending.{HasEnded}
 use Rattle.ep_claim.specs.Lanes.LaneText.{Job}
 use Rattle.ep_claim.specs.Lanes.Order.{Order, next_turn}
 use Rattle.ep_claim.specs.Lanes.WholeRun.{ProbeSteps, Run, is_live, opened_run, run_after, run_step}
-use Rattle.law_turns.specs.Growing.{AreShort, most_exchanges}
+use Rattle.law_turns.specs.Growing.{most_exchanges}
+use Rattle.ep_claim.specs.Lanes.ShortLanes.{AreShort}
 use Rattle.law_turns.proofs.Growing.{texts_grow_law, runs_end_in_most_law}
 use Rattle.law_turns.proofs.Stepping.{times_end}
 use Rattle.lane_run.proofs.Appending.{prefix_front}

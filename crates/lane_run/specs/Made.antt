@@ -3,7 +3,7 @@ use Rattle.std.specs.Prelude.{◌≡◌, ℕ, Bool, List, length, Option}
 use Rattle.ep_rules.specs.EntryPoint.Configuration.{Config}
 use Rattle.ep_base.specs.Cards.Field.{Field}
 use Rattle.ep_base.specs.Streams.Io.{AppendsPrefix}
-use Rattle.law_turns.specs.Growing.{AreShort}
+use Rattle.ep_claim.specs.Lanes.ShortLanes.{AreShort}
 use Rattle.ep_claim.specs.Lanes.LaneText.{Job}
 use Rattle.ep_claim.specs.Lanes.WholeRun.{ProbeSteps, opened_run, run_after}
 use Rattle.ep_claim.specs.Lanes.Probing.{ProbeAnswers, Tells}

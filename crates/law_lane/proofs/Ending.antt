@@ -18,7 +18,7 @@ use Rattle.ep_rules.specs.EntryPoint.TransportRun.{HearEnd, Whole, AtLink}
 use Rattle.ep_rules.specs.EntryPoint.Perfect.{Channel, Perfect, channel, presents, perfect, at_command, gave, with_command}
 use Rattle.ep_rules.specs.EntryPoint.Bounds.{AtMost}
 use Rattle.law_wire.proofs.Limits.{images_keep}
-use Rattle.law_round.specs.Acting.{party_at}
+use Rattle.ep_base.specs.Cards.LinkedField.{party_at}
 use Rattle.law_round.proofs.Playing.{always_plays_law}
 use Rattle.law_round.proofs.Linking.{keeps_cards_law}
 use Rattle.law_round.proofs.Lossless.{Passing}

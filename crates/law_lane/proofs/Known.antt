@@ -20,8 +20,8 @@ use Rattle.ep_base.specs.Cards.Direct.{image_rules}
 use Rattle.ep_rules.specs.EntryPoint.Perfect.{Channel, presents}
 use Rattle.law_radio.proofs.Stored.{stored_at}
 use Rattle.ep_base.specs.Cards.Lawful.{Lawful, faces}
-use Rattle.law_round.specs.Polled.{SameCards}
-use Rattle.law_round.specs.Acting.{are_fates, is_open, linked_at, party_at, shown}
+use Rattle.ep_base.specs.Cards.LinkedField.{SameCards, are_fates, is_open, linked_at, party_at}
+use Rattle.law_round.specs.Acting.{shown}
 use Rattle.law_round.proofs.Lawfulness.{stays_lawful_law}
 use Rattle.law_round.proofs.Polling.{polls_quietly_law}
 use Rattle.law_round.proofs.Acting.{others_stay_law}

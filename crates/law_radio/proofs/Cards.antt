@@ -8,9 +8,9 @@ use Rattle.ep_base.specs.Cards.Images.{stored}
 use Rattle.ep_base.specs.Cards.Direct.{image_rules}
 use Rattle.ep_rules.specs.EntryPoint.Perfect.{Channel, presents}
 use Rattle.ep_base.specs.Cards.Field.{Outside, OfA, OfB, outside_reset, Placed}
-use Rattle.law_round.specs.Inside.{is_out}
+use Rattle.ep_base.specs.Cards.Inside.{is_out}
 use Rattle.ep_base.specs.Cards.Lawful.{kind_of, id_of, names, Face, faces, reset_faces}
-use Rattle.law_round.specs.Acting.{linked_at, party_at, without}
+use Rattle.ep_base.specs.Cards.LinkedField.{linked_at, party_at, without}
 use Rattle.law_radio.proofs.Stored.{stored_at, stored_other}
 use Rattle.ep_base.specs.Cards.Numbers.{numbers, IsOther, AreDistinct, AreNumbered, HaveImages}
 

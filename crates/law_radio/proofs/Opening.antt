@@ -11,11 +11,10 @@ use Rattle.ep_base.specs.Poll.Polling.{Came, PlaysRounds}
 use Rattle.ep_base.specs.Link.Carry.{AtRest, OfLink}
 use Rattle.ep_base.specs.Cards.Field.{Placed, Field, field}
 use Rattle.ep_base.specs.Poll.Radio.{setting_of}
-use Rattle.law_round.specs.Inside.{is_out, all_out}
+use Rattle.ep_base.specs.Cards.Inside.{is_out, all_out}
 use Rattle.ep_base.specs.Cards.Lawful.{kind_of, id_of, Lawful, faces, reset_faces}
-use Rattle.law_round.specs.Linked as linked
-use Rattle.law_round.specs.Polled.{SameCards}
-use Rattle.law_round.specs.Acting.{is_link, linked_at, are_fates, is_open, party_at, shown}
+use Rattle.ep_base.specs.Cards.LinkedField.{HasLink, SameCards, is_link, linked_at, are_fates, is_open, party_at}
+use Rattle.law_round.specs.Acting.{shown}
 use Rattle.law_round.proofs.Acting.{Place, Link, from_link, fates_truth}
 use Rattle.law_round.proofs.Linking.{links_one_law, keeps_cards_law}
 use Rattle.law_round.proofs.Polling.{polls_quietly_law, polls_ready_law}
@@ -32,7 +31,7 @@ party_there : (before : List Placed) (one : Placed) (after : List Placed) → pa
 party_there [] one after = refl
 party_there (p ∷ before) one after = party_there before one after
 
-fresh_link : (fsdi : ℕ) (card : Activated) (one : Placed) → linked.HasLink fsdi card one → Link card.kind false one
+fresh_link : (fsdi : ℕ) (card : Activated) (one : Placed) → HasLink fsdi card one → Link card.kind false one
 fresh_link fsdi card one h = record {
   present = h.present;
   kind_same = h.link_kind;

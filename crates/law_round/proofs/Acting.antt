@@ -17,9 +17,10 @@ use Rattle.ep_base.specs.Air.Fates.{Way, Bursts, Leaves, IsWay, Fate, AreFates, 
 use Rattle.ep_base.specs.Air.Fates as ways
 use Rattle.ep_base.specs.Link.Wire.{Party, Heeded, unmoved, takes_opened, takes_frame, takes_down, aired, comes_down, comes_back, Wire, moved, wire_heeds, wire_send}
 use Rattle.ep_base.specs.Cards.Field.{Outside, OfA, OfB, outside_after, outside_reply, outside_halted, outside_reset, Placed, CardAfter, untouched, by_link, by_reply, hears_frame, one_hears, CardsHeard, maybe_answer, and_then, all_hear, joined, left_by, leaves, away, Field, all_take, field_hears, field_after, field_send}
-use Rattle.law_round.specs.Inside.{is_inside, is_out, all_out}
+use Rattle.ep_base.specs.Cards.Inside.{is_inside, is_out, all_out}
 use Rattle.ep_base.specs.Cards.Lawful.{kind_of, names, faces}
-use Rattle.law_round.specs.Acting.{is_way, are_fates, is_link, linked_at, is_open, party_at, without, shown, OthersStay, FieldActs}
+use Rattle.law_round.specs.Acting.{shown, OthersStay, FieldActs}
+use Rattle.ep_base.specs.Cards.LinkedField.{is_way, are_fates, is_link, linked_at, is_open, party_at, without}
 use Rattle.law_round.proofs.Presenting.{either}
 use Rattle.law_round.proofs.Lawfulness.{frame_keeps, names_send}
 use Rattle.law_round.proofs.Rounds.{faces_left}

@@ -12,7 +12,8 @@ use Rattle.ep_base.specs.Air.Frame.{sealed}
 use Rattle.ep_base.specs.Link.Spelling.{spelled}
 use Rattle.law_wire.proofs.Alike.{carried_alike_lem}
 use Rattle.law_wire.proofs.Limits.{images_keep}
-use Rattle.law_round.specs.Acting.{is_open, without, shown}
+use Rattle.law_round.specs.Acting.{shown}
+use Rattle.ep_base.specs.Cards.LinkedField.{is_open, without}
 use Rattle.ep_base.specs.Cards.Lawful.{names, faces, Lawful}
 use Rattle.law_round.proofs.Lawfulness.{lawful_send}
 use Rattle.law_round.specs.Once.{OnceInField, LeavesOthers, StaysReady}

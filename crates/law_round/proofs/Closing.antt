@@ -8,7 +8,8 @@ use Rattle.ep_base.specs.Link.Spelling.{spelled}
 use Rattle.ep_base.specs.Air.Fates.{Fate, AreFates}
 use Rattle.ep_base.specs.Link.Wire.{Wire, wire_send}
 use Rattle.law_wire.proofs.Passing.{closes_quietly}
-use Rattle.law_round.specs.Acting.{is_way, linked_at, are_fates, shown}
+use Rattle.law_round.specs.Acting.{shown}
+use Rattle.ep_base.specs.Cards.LinkedField.{is_way, linked_at, are_fates}
 use Rattle.law_round.specs.Once.{ClosesQuietly}
 use Rattle.law_round.proofs.Acting.{way_is, field_acts_law}
 

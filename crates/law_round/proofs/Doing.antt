@@ -14,7 +14,7 @@ use Rattle.ep_base.specs.Cards.TypeB.{attrib_of, wupb, BStage, BPlan, BState, BI
 use Rattle.ep_base.specs.Poll.Round.{Stage, Waking, Halting, WakingB, InA, InB, round_asks}
 use Rattle.ep_base.specs.Cards.Field.{Outside, OfA, OfB, outside_after, outside_reply}
 use Rattle.rf_frame.proofs.Opening.{opened_sealed}
-use Rattle.law_round.specs.Inside.{a_inside, b_inside, is_inside}
+use Rattle.ep_base.specs.Cards.Inside.{a_inside, b_inside, is_inside}
 use Rattle.ep_base.specs.Cards.Lawful.{IsFour, Bytes, IsFormed}
 use Rattle.law_round.proofs.Fitting.{Early, AtLevel, Chosen, NotOpen, NotOpenB, FitsA, Next}
 use Rattle.law_round.proofs.Presenting.{takes, keeps_b, selected, either, when, early_closed}

@@ -9,7 +9,7 @@ use Rattle.ep_base.specs.Cards.TypeB.{BPlan, BState, BIdle, BReady, BProtocol, b
 use Rattle.ep_base.specs.Poll.Round.{Stage, Waking, Halting, WakingB, InA, InB, round_asks, round_hears}
 use Rattle.ep_base.specs.Link.CardEnd.{fresh_card}
 use Rattle.ep_base.specs.Cards.Field.{Outside, OfA, OfB, outside_after, outside_reply, outside_reset, Placed, CardAfter, untouched, by_reply, hears_frame, one_hears, CardsHeard, maybe_answer, and_then, all_hear}
-use Rattle.law_round.specs.Inside.{is_inside}
+use Rattle.ep_base.specs.Cards.Inside.{is_inside}
 use Rattle.ep_base.specs.Cards.Lawful.{IsFormed, ArePlaced, faces}
 use Rattle.law_round.proofs.Fitting.{Chosen, NotOpen, NotOpenB, FitsA, Next}
 use Rattle.law_round.proofs.Presenting.{step_a, early_closed, level_closed}

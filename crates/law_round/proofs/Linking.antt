@@ -7,9 +7,10 @@ use Rattle.ep_base.specs.Air.Medium.{told}
 use Rattle.ep_base.specs.Poll.Polling.{PlaysRound}
 use Rattle.ep_base.specs.Poll.Round.{Stage}
 use Rattle.ep_base.specs.Cards.Field.{Outside, OfA, OfB, Placed, Field, field}
-use Rattle.law_round.specs.Inside.{is_inside, is_out, all_out}
+use Rattle.ep_base.specs.Cards.Inside.{is_inside, is_out, all_out}
 use Rattle.ep_base.specs.Cards.Lawful.{IsUid, Four, Seven, Ten, IsFormed, IsReachable, kind_of, id_of, IsPlaced, ArePlaced, names, IsUnlike, AreApart, Lawful}
-use Rattle.law_round.specs.Linked.{HasLink, OneLink, LinksOne, KeepsCards}
+use Rattle.law_round.specs.Linked.{OneLink, LinksOne, KeepsCards}
+use Rattle.ep_base.specs.Cards.LinkedField.{HasLink}
 use Rattle.law_round.proofs.Fitting.{Next}
 use Rattle.law_round.proofs.Hearing.{CardFits, AllFits, AnyInside}
 use Rattle.law_round.proofs.Rounds.{Mode, Fit, round_ends, round_faces}

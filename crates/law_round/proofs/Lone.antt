@@ -10,7 +10,7 @@ use Rattle.ep_base.specs.Air.Medium.{told}
 use Rattle.ep_base.specs.Poll.Polling.{AfterExchange, Plays, PlaysRound}
 use Rattle.ep_base.specs.Link.Wire.{comes_down, comes_back}
 use Rattle.ep_base.specs.Cards.Field.{Outside, OfA, OfB, outside_after, outside_reply, Placed, CardAfter, untouched, by_reply, hears_frame, one_hears, CardsHeard, maybe_answer, and_then, all_hear, joined, left_by, leaves, away, Field, field_reset, all_take, field_hears, field_send, field}
-use Rattle.law_round.specs.Inside.{is_inside}
+use Rattle.ep_base.specs.Cards.Inside.{is_inside}
 use Rattle.ep_base.specs.Cards.Lawful.{IsFormed}
 use Rattle.law_round.specs.Alone.{AreAbsent, IsAlone, AloneIn}
 use Rattle.law_round.proofs.Fitting.{Next}

@@ -16,7 +16,8 @@ use Rattle.ep_base.specs.Link.ReaderEnd as links
 use Rattle.ep_base.specs.Link.ReaderEnd.{Reader, begin}
 use Rattle.ep_base.specs.Poll.Round.{Stage, round_asks, round_hears}
 use Rattle.ep_base.specs.Link.Spelling.{spelled}
-use Rattle.law_round.specs.Acting.{is_open, shown}
+use Rattle.law_round.specs.Acting.{shown}
+use Rattle.ep_base.specs.Cards.LinkedField.{is_open}
 use Rattle.law_round.proofs.Acting.{field_acts_law}
 use Rattle.law_round.proofs.Carrying.{along}
 use Rattle.law_wire.proofs.Alike.{unspent_alike}

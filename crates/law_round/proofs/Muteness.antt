@@ -20,7 +20,7 @@ use Rattle.ep_base.specs.Link.Wire.{comes_down}
 use Rattle.ep_base.specs.Cards.Field.{Outside, OfA, OfB, outside_after, outside_reply, Placed, CardAfter, untouched, by_reply, hears_frame, one_hears, CardsHeard, and_then, all_hear}
 use Rattle.rf_frame.proofs.Opening.{ends_sealed}
 use Rattle.law_wire.proofs.Reading.{opened_spelled}
-use Rattle.law_round.specs.Inside.{a_out, b_out, is_out, all_out}
+use Rattle.ep_base.specs.Cards.Inside.{a_out, b_out, is_out, all_out}
 use Rattle.law_round.proofs.Arriving.{Arrival, Lost, Whole, Damaged, arrives}
 
 -- the first bytes of blocks

@@ -6,7 +6,8 @@ use Rattle.ep_base.specs.Air.Medium.{told}
 use Rattle.ep_base.specs.Poll.Polling.{Polled, Came, NoCard, Device, AfterEnd, AfterRound, PlaysRound, PlaysRounds, card_in}
 use Rattle.ep_base.specs.Cards.Field.{outside_reset, Placed, Field, field}
 use Rattle.ep_base.specs.Cards.Lawful.{Lawful, Face, faces, reset_faces}
-use Rattle.law_round.specs.Polled.{SameCards, EndsWithRound, PollsQuietly, PollsReady}
+use Rattle.law_round.specs.Polled.{EndsWithRound, PollsQuietly, PollsReady}
+use Rattle.ep_base.specs.Cards.LinkedField.{SameCards}
 use Rattle.law_round.proofs.Readying.{opens_wire_law}
 use Rattle.law_round.proofs.Linking.{keeps_cards_law}
 

@@ -10,10 +10,10 @@ use Rattle.ep_base.specs.Air.Medium.{told}
 use Rattle.ep_base.specs.Link.Wire.{Party}
 use Rattle.ep_base.specs.Link.Carry.{AtRest}
 use Rattle.ep_base.specs.Cards.Field.{Placed, field}
-use Rattle.law_round.specs.Inside.{is_out, all_out}
+use Rattle.ep_base.specs.Cards.Inside.{is_out, all_out}
 use Rattle.ep_base.specs.Cards.Lawful.{IsPlaced, ArePlaced}
-use Rattle.law_round.specs.Linked.{HasLink}
-use Rattle.law_round.specs.Acting.{is_link, linked_at, are_fates, party_at, IsReady, OpensWire}
+use Rattle.ep_base.specs.Cards.LinkedField.{HasLink, is_link, linked_at, are_fates, party_at}
+use Rattle.law_round.specs.Acting.{IsReady, OpensWire}
 use Rattle.std.proofs.lemmas.Bool.{and_parts}
 use Rattle.law_round.proofs.Acting.{Place, Link, from_link, fates_truth}
 use Rattle.ep_base.proofs.Sizes.{frame_sized}

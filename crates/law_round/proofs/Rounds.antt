@@ -18,7 +18,7 @@ use Rattle.ep_base.specs.Link.Wire.{comes_down, comes_back}
 use Rattle.ep_base.specs.Cards.Field.{Outside, OfA, OfB, outside_reset, Placed, CardsHeard, joined, all_hear, left_by, leaves, away, is_present, placed_reset, all_reset, Field, field_reset, all_take, field_hears, field_send, field}
 use Rattle.rf_frame.proofs.Opening.{ends_sealed}
 use Rattle.law_wire.proofs.Passing.{next_ways}
-use Rattle.law_round.specs.Inside.{is_inside}
+use Rattle.ep_base.specs.Cards.Inside.{is_inside}
 use Rattle.ep_base.specs.Cards.Lawful.{ArePlaced, Lawful, faces, reset_faces}
 use Rattle.law_round.proofs.Arriving.{Arrival, Lost, Whole, Damaged, arrives}
 use Rattle.law_round.proofs.Fitting.{Next}

@@ -1,24 +1,12 @@
 -- What a poll round leaves of a field (this project's own).
 use Rattle.std.specs.Prelude.{◌≡◌, ℕ, true, false, List, ◌∷◌, ◌++◌, Option, Some}
-use Rattle.ep_base.specs.Air.FrameSize.{frame_size}
 use Rattle.ep_base.specs.Air.Heard.{Activated, RoundEnd, Found}
 use Rattle.ep_base.specs.Air.Medium.{told}
 use Rattle.ep_base.specs.Poll.Polling.{PlaysRound}
-use Rattle.ep_base.specs.Link.CardEnd.{fresh_card}
 use Rattle.ep_base.specs.Cards.Field.{Placed, Field, field}
-use Rattle.law_round.specs.Inside.{is_inside, all_out}
-use Rattle.ep_base.specs.Cards.Lawful.{kind_of, id_of, Lawful, faces, reset_faces}
-
--- A card with a link that was just opened: it is the card that was found, is present and in the block protocol, and its end of the link is fresh,
--- with the reader's frame size (ISO/IEC 14443-4).
-pub record HasLink (fsdi : ℕ) (card : Activated) (p : Placed) : Type 0 where
-  pub present : p.present ≡ true
-  pub inside : is_inside p.outside ≡ true
-  pub kind : kind_of p.outside ≡ card.kind
-  pub id : id_of p.outside ≡ card.id
-  pub link_kind : p.party.kind ≡ card.kind
-  pub frame : p.party.fsd ≡ frame_size fsdi
-  pub fresh : p.party.card ≡ fresh_card
+use Rattle.ep_base.specs.Cards.Inside.{all_out}
+use Rattle.ep_base.specs.Cards.Lawful.{Lawful, faces, reset_faces}
+use Rattle.ep_base.specs.Cards.LinkedField.{HasLink}
 
 -- One card has such a link, all others are outside the block protocol, and the cards are still there (this project's own).
 abbrev pub OneLink : ℕ → Activated → Field → Type 0

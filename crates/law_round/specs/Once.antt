@@ -8,7 +8,8 @@ use Rattle.ep_base.specs.Air.Medium.{told}
 use Rattle.ep_base.specs.Cards.Apdu.{is_command}
 use Rattle.ep_base.specs.Link.Carry.{SendsBlock, AtRest, OfLink, Follows, OnceSo}
 use Rattle.ep_base.specs.Cards.Field.{Field, field}
-use Rattle.law_round.specs.Acting.{is_open, without, shown}
+use Rattle.law_round.specs.Acting.{shown}
+use Rattle.ep_base.specs.Cards.LinkedField.{is_open, without}
 use Rattle.ep_base.specs.Cards.Lawful.{names, faces, Lawful}
 
 -- Whatever becomes of the frames, a command over an open link of a field is executed once by the linked card, or at most once where the link is

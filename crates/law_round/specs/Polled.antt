@@ -7,12 +7,7 @@ use Rattle.ep_base.specs.Poll.Polling.{Polled, Came, NoCard, Device, PlaysRound,
 use Rattle.ep_base.specs.Cards.Field.{Field, field}
 use Rattle.ep_base.specs.Cards.Lawful.{Lawful, faces, reset_faces}
 use Rattle.law_round.specs.Acting.{OpensTo, IsSet}
-
--- The log and its room stay, and so do the plans and images of the cards but for the selected applications (this project's own).
-pub record SameCards (s t : Field) : Type 0 where
-  pub log : t.log ≡ s.log
-  pub room : t.room ≡ s.room
-  pub cards : reset_faces t.cards ≡ reset_faces s.cards
+use Rattle.ep_base.specs.Cards.LinkedField.{SameCards}
 
 -- Polling that ends with a card ends with a round that does, over a lawful field of the same cards (this project's own).
 abbrev pub EndsWithRound : ℕ → Field → Field → Polled → Type 0

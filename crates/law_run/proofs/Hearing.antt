@@ -6,7 +6,8 @@ use Rattle.ep_rules.specs.EntryPoint.Talk.{Talk, Over, Say, Poll, Command, Close
 use Rattle.ep_base.specs.Poll.Transport.{TransportSteps, PresentResult, Here, Nobody, Gone, Reply, Answered, Spent, Breached, Lost}
 use Rattle.ep_rules.specs.EntryPoint.EventSteps.{EventSteps}
 use Rattle.ep_rules.specs.EntryPoint.TransportRun.{RunEnd, Ended, DeviceFailed, EventsFailed, RunLeft, Leaves, Takes, Ends, AfterPresent, AfterReply, AfterClose, Runs, first_end, more_ends, HearEnd, Whole, AtLink, AtBreach, AtDevice, Hears, all_taken, said_for, end_said}
-use Rattle.law_run.specs.Heard.{Says, Wishes, HearsPart, RanBy, Hearing}
+use Rattle.law_run.specs.Heard.{Hearing}
+use Rattle.ep_rules.specs.EntryPoint.Became.{Says, Wishes, HearsPart, RanBy}
 
 pub all_taken_more : {E : Type 0} (take : E → EventData → E) (e : E) (xs ys : List EventData) → all_taken take e (xs ++ ys) ≡ all_taken take (all_taken take e xs) ys
 all_taken_more take e [] ys = refl

@@ -13,7 +13,8 @@ use Rattle.ep_base.specs.Cards.Images.{Rules, stored}
 use Rattle.ep_rules.specs.EntryPoint.Perfect.{Channel, channel, presents, perfect, at_command}
 use Rattle.ep_base.specs.Cards.Direct.{Direct, direct, direct_reply, presented_anew, image_rules}
 use Rattle.ep_rules.specs.EntryPoint.Bounds.{AtMost, AtMostStarts}
-use Rattle.law_run.specs.OverPerfect.{channel_after, channel_asked, PerfectBy, OverPerfect}
+use Rattle.law_run.specs.OverPerfect.{OverPerfect}
+use Rattle.ep_rules.specs.EntryPoint.OverChannel.{channel_after, channel_asked, PerfectBy}
 use Rattle.law_run.proofs.Hearing.{all_taken_more}
 use Rattle.ep_base.proofs.Images.{card_number}
 

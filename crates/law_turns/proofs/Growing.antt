@@ -20,7 +20,8 @@ use Rattle.ep_claim.specs.Lanes.WholeRun.{ProbeSteps, run_step, opened_run, run_
 use Rattle.ep_claim.specs.Lanes.Pieces.{written, step_pieces}
 use Rattle.ep_claim.specs.Lanes.Counting.{IsBounded, IsOverAfter, exchanges_most}
 use Rattle.ep_claim.specs.Lanes.Ending.{AreOverAfter, LanesOverAfter, in_all, HasEnded}
-use Rattle.law_turns.specs.Growing.{TextsGrow, RunsStay, IsShort, IsShortLane, AreShort, most_of_one, most_exchanges, RunsEndInMost}
+use Rattle.law_turns.specs.Growing.{TextsGrow, RunsStay, most_of_one, most_exchanges, RunsEndInMost}
+use Rattle.ep_claim.specs.Lanes.ShortLanes.{IsShort, IsShortLane, AreShort}
 use Rattle.law_turns.proofs.Bounding.{transaction_few}
 use Rattle.law_turns.proofs.Counting.{every_exchange_counts_law}
 use Rattle.law_turns.proofs.Ending.{over_same, runs_end_within_law}

@@ -25,12 +25,11 @@ use Rattle.link.specs.Answers.{presentation_of}
 use Rattle.link.specs.declared.transport.Presented.{Presented}
 use Rattle.link.specs.declared.transport.PresentEnd.{PresentEnd}
 use Rattle.link.specs.declared.transport.PresentEnd.TheVariants as present
-use Rattle.law_round.specs.Acting.{is_link, linked_at, are_fates, is_open, party_at, shown}
-use Rattle.law_round.specs.Inside.{is_out}
+use Rattle.law_round.specs.Acting.{shown}
+use Rattle.ep_base.specs.Cards.LinkedField.{is_link, linked_at, are_fates, is_open, party_at, HasLink, SameCards}
+use Rattle.ep_base.specs.Cards.Inside.{is_out}
 use Rattle.ep_base.specs.Cards.Lawful.{ArePlaced, Lawful}
 use Rattle.ep_base.specs.declared.limits.TheConstants.{ROUNDS}
-use Rattle.law_round.specs.Linked.{HasLink}
-use Rattle.law_round.specs.Polled.{SameCards}
 use Rattle.law_round.proofs.Acting.{Place, Link, from_link, fates_truth}
 use Rattle.law_round.proofs.Carrying.{along, leaves_others_law}
 use Rattle.law_round.proofs.Closing.{closes_quietly_law}

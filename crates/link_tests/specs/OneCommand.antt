@@ -10,10 +10,9 @@ use Rattle.ep_base.specs.Link.LinkFrames.{LinkSetting}
 use Rattle.ep_base.specs.Poll.Radio.{OpenLink, Radio, link_to}
 use Rattle.ep_base.specs.Link.ReaderEnd.{Reader}
 use Rattle.ep_base.specs.Link.Spelling.{spelled}
-use Rattle.law_round.specs.Acting.{is_open, party_at, without}
+use Rattle.ep_base.specs.Cards.LinkedField.{is_open, party_at, without, HasLink}
 use Rattle.ep_base.specs.Cards.Lawful.{Lawful, faces, names}
 use Rattle.ep_base.specs.declared.limits.TheConstants.{FRAME}
-use Rattle.law_round.specs.Linked.{HasLink}
 use Rattle.block_reader.specs.declared.ends.LinkEnd.{LinkEnd}
 use Rattle.block_reader.specs.declared.ends.LinkEnd.TheVariants.{Spent, Breach, Device}
 use Rattle.link.specs.Radio.{radio_at}

@@ -4,7 +4,7 @@ ghost use Rattle.ep_base.specs.Cards.Field as plain;
 ghost use Rattle.ep_base.specs.Air.Medium.{told};
 ghost use Rattle.ep_base.specs.Poll.Radio.{OpenLink, RadioPresents, link_to};
 ghost use Rattle.ep_base.specs.Cards.Lawful.{Lawful};
-ghost use Rattle.law_round.specs.Polled.{SameCards};
+ghost use Rattle.ep_base.specs.Cards.LinkedField.{SameCards};
 ghost use Rattle.link.specs.Answers.{presentation_of};
 ghost use Rattle.rf_field.specs.Fields.{field_of};
 ghost use Rattle.link_tests.specs.OneCommand.{IsLinked, IsUsable, LinksTo, OneCommand, OthersStay, closed_by};

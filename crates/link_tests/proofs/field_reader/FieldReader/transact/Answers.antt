@@ -1,4 +1,5 @@
-use Rattle.law_round.specs.Acting.{is_open, shown}
+use Rattle.law_round.specs.Acting.{shown}
+use Rattle.ep_base.specs.Cards.LinkedField.{is_open}
 use Rattle.law_round.proofs.Acting.{field_acts_law}
 use Rattle.link.specs.Answers.{reply_of}
 use Rattle.link.specs.Radio.{link_of}
