@@ -201,22 +201,6 @@ impl Section<'_> {
         }
     }
 
-    /// The value at a key, of any kind.
-    pub fn value(&self, key: &str) -> Option<&Value>
-        ensures { option_map (λ v. view v.now) result ≡ get_member key.now (place self.now).members }
-    {
-        value_at(self.table, key)
-    }
-
-    /// The path of a key.
-    pub fn path(&self, key: &str) -> Path
-        requires { length self.now.path.now + length key.now < 96 }
-        ensures text { result ≡ key_path self.now.path.now key.now }
-        ensures longer { length result ≤ length self.now.path.now + 1 + length key.now }
-    {
-        self.path.key(key)
-    }
-
     /// The table itself.
     pub fn table(&self) -> &Table
         ensures { table_view result.now ≡ (place self.now).members }

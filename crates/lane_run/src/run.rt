@@ -72,9 +72,9 @@ pub fn report_lanes<K: Sink, P: Probe>(
     }
 }
 
-/// Runs at most `LANES` lanes as a report does, whoever answers their exchanges, and over the fields that stand for theirs. It says whether the run is over: no lane has an
-/// exchange left, or else the next exchange had no answer. Before that one all was written, and who answers is in the state in
-/// which it failed.
+/// Runs at most `LANES` lanes as a report does, whoever answers their exchanges, and over the fields that stand for theirs. It
+/// says whether the run is over: no lane has an exchange left, or else the next exchange had no answer. Before that one all was
+/// written, and who answers is in the state in which it failed.
 ///
 /// The lanes are new, and what each has to do are at most `TRANSACTIONS` transactions within this project's limits; the reader's
 /// frame size code is at most 8. Nothing here takes memory.
