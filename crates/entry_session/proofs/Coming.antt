@@ -5,7 +5,7 @@ use Rattle.ep_base.specs.Poll.Transport.{TransportSteps, Here, Nobody, Gone, Ans
 use Rattle.ep_rules.specs.EntryPoint.Event.{Event as EventData, OwnEvent, Tells, Apdu, End, Ending}
 use Rattle.ep_rules.specs.EntryPoint.EventSteps.{EventSteps}
 use Rattle.ep_rules.specs.EntryPoint.Talk.{Talk, Over, Say, Poll, Command, Close, Result, Round, Response, Closed, SoFar, Wish, Polls, Commands, Closes, Nothing, so_far, after_event}
-use Rattle.ep_rules.specs.EntryPoint.TransportRun.{RunLeft, EventsFailed, Leaves, Takes, AfterPresent, AfterReply, AfterClose, Runs, all_taken, first_end, more_ends}
+use Rattle.ep_rules.specs.EntryPoint.TransportRun.{RunLeft, EventsFailed, Leaves, TakesEvent, AfterPresent, AfterReply, AfterClose, Runs, all_taken, first_end, more_ends}
 use Rattle.session_phases.specs.Told.{after_events}
 use Rattle.entry_session.specs.Meaning.{IsCutIn}
 
@@ -110,7 +110,7 @@ module _ {T E : Type 0} (link : TransportSteps T) (events : EventSteps E) where
   close_on more next other true u e left on runs = on runs
   close_on more next other false u e left on runs = runs
 
-  takes_on : (x : EventData) (u : T) (e : E) (left : RunLeft T E) (P Q : E → Type 0) → ((f : E) → P f → Q f) → Takes link events x u e left P → Takes link events x u e left Q
+  takes_on : (x : EventData) (u : T) (e : E) (left : RunLeft T E) (P Q : E → Type 0) → ((f : E) → P f → Q f) → TakesEvent link events x u e left P → TakesEvent link events x u e left Q
   takes_on x u e left P Q on (inl cut) = inl cut
   takes_on x u e left P Q on (inr h) = inr (on (events.take e x) h)
 
@@ -178,16 +178,16 @@ first_response c r [] next (Close other) h = absurd (let es : Apdu c r ∷ (so_f
 
 module _ {T E : Type 0} (link : TransportSteps T) (events : EventSteps E) (c r : List ℕ) (told : List EventData) (next rest : Talk) (u : T) (e : E) (left : RunLeft T E)
     (h : (more : List Result) → after_event (Apdu c r) (so_far next more) ≡ after_events told (so_far rest more)) where
-  pub response_runs : Runs link events rest [] u (all_taken events.take e told) left → Takes link events (Apdu c r) u e left (λ f. Runs link events next [] u f left)
+  pub response_runs : Runs link events rest [] u (all_taken events.take e told) left → TakesEvent link events (Apdu c r) u e left (λ f. Runs link events next [] u f left)
   response_runs runs =
       let is : (others : List EventData) × (told ≡ Apdu c r ∷ others) × ComesTo next others rest = first_response c r told next rest h in
       inr (runs_from link events next rest is.0 is.2 [] u (events.take e (Apdu c r)) left (subst (λ (told : List EventData). Runs link events rest [] u (all_taken events.take e told) left) is.1 runs))
 
-  pub response_cut : (f : E) → IsCutIn events e told f → Leaves left EventsFailed u f → Takes link events (Apdu c r) u e left (λ f. Runs link events next [] u f left)
+  pub response_cut : (f : E) → IsCutIn events e told f → Leaves left EventsFailed u f → TakesEvent link events (Apdu c r) u e left (λ f. Runs link events next [] u f left)
   response_cut f cut leaves =
       let is : (others : List EventData) × (told ≡ Apdu c r ∷ others) × ComesTo next others rest = first_response c r told next rest h in
       by_first is.0 is.2 (subst (λ (told : List EventData). IsCutIn events e told f) is.1 cut)
     where
-      by_first : (others : List EventData) → ComesTo next others rest → IsCutIn events e (Apdu c r ∷ others) f → Takes link events (Apdu c r) u e left (λ f. Runs link events next [] u f left)
+      by_first : (others : List EventData) → ComesTo next others rest → IsCutIn events e (Apdu c r ∷ others) f → TakesEvent link events (Apdu c r) u e left (λ f. Runs link events next [] u f left)
       by_first others comes (inl cut) = inl (f, cut, leaves)
       by_first others comes (inr cut) = inr (cut_from link events next rest others comes [] u (events.take e (Apdu c r)) f left cut leaves)

@@ -56,8 +56,8 @@ field_so ask f = field_by ask.reset ask f
 module _ (lane : ℕ) (s t : Replaying) (f : Field) (blank : IsBlank f) where
   -- it asked what the line says
   pub heard_turn : (before after : Held Scripted) (turned : Turned) (said : List EventData) (left : Option Field)
-      → Turns scripted (told replay) (probes.told open_probe) lane before (at_lane lane s) tt turned said after t tt
-      → HeardTurn (probes.told trace_probe) (λ _ g. IsBlank g) lane before f s turned said after left t
+      → Turns scripted (told replay) (probes.probe_told open_probe) lane before (at_lane lane s) tt turned said after t tt
+      → HeardTurn (probes.probe_told trace_probe) (λ _ g. IsBlank g) lane before f s turned said after left t
   heard_turn before after turned said left turn =
       let makes = turn.makes in
       let asked = turn.made.asked in
@@ -90,7 +90,7 @@ module _ (lane : ℕ) (s t : Replaying) (f : Field) (blank : IsBlank f) where
 
   -- it asked something else
   pub unheard_turn : (before after : LaneHeld Scripted) → Fails (told replay) before (at_lane lane s) after t
-      → UnheardTurn (probes.told trace_probe) lane before f s t
+      → UnheardTurn (probes.probe_told trace_probe) lane before f s t
   unheard_turn before after fails =
       let asks = fails.transaction.asks in
       record {
@@ -105,7 +105,7 @@ module _ (lane : ℕ) (s t : Replaying) (f : Field) (blank : IsBlank f) where
 
 -- Whether the trace has failed then.
 pub heard_well : (lane : ℕ) (s t : Replaying) (before after : Held Scripted) (turned : Turned) (said : List EventData)
-    → Turns scripted (told replay) (probes.told open_probe) lane before (at_lane lane s) tt turned said after t tt → is_some t.failure ≡ false
+    → Turns scripted (told replay) (probes.probe_told open_probe) lane before (at_lane lane s) tt turned said after t tt → is_some t.failure ≡ false
 heard_well lane s t before after turned said turn =
     ap is_some
     (answer_of lane turn.made.asked s (Some turn.makes.given, t) (line_is lane turn.made.asked s t (Some turn.makes.given) turn.makes.exchange)).0
@@ -118,20 +118,20 @@ unheard_ill lane s t before after fails =
 -- The same, where the lane was named before.
 module _ (lane : ℕ) (s u t : Replaying) (named : u ≡ at_lane lane s) where
   pub heard_from : (before after : Held Scripted) (turned : Turned) (said : List EventData) (left : Option Field)
-      → Turns scripted (told replay) (probes.told open_probe) lane before u tt turned said after t tt
-      → (f : Field) → IsBlank f → HeardTurn (probes.told trace_probe) (λ _ g. IsBlank g) lane before f s turned said after left t
+      → Turns scripted (told replay) (probes.probe_told open_probe) lane before u tt turned said after t tt
+      → (f : Field) → IsBlank f → HeardTurn (probes.probe_told trace_probe) (λ _ g. IsBlank g) lane before f s turned said after left t
   heard_from before after turned said left turn f blank =
       heard_turn lane s t f blank before after turned said left
-      (subst (λ x. Turns scripted (told replay) (probes.told open_probe) lane before x tt turned said after t tt) named turn)
+      (subst (λ x. Turns scripted (told replay) (probes.probe_told open_probe) lane before x tt turned said after t tt) named turn)
 
   pub well_from : (before after : Held Scripted) (turned : Turned) (said : List EventData)
-      → Turns scripted (told replay) (probes.told open_probe) lane before u tt turned said after t tt → is_some t.failure ≡ false
+      → Turns scripted (told replay) (probes.probe_told open_probe) lane before u tt turned said after t tt → is_some t.failure ≡ false
   well_from before after turned said turn =
       heard_well lane s t before after turned said
-      (subst (λ x. Turns scripted (told replay) (probes.told open_probe) lane before x tt turned said after t tt) named turn)
+      (subst (λ x. Turns scripted (told replay) (probes.probe_told open_probe) lane before x tt turned said after t tt) named turn)
 
   pub unheard_from : (before after : LaneHeld Scripted) → Fails (told replay) before u after t
-      → (f : Field) → IsBlank f → UnheardTurn (probes.told trace_probe) lane before f s t
+      → (f : Field) → IsBlank f → UnheardTurn (probes.probe_told trace_probe) lane before f s t
   unheard_from before after fails f blank =
       unheard_turn lane s t f blank before after (subst (λ x. Fails (told replay) before x after t) named fails)
 

@@ -9,7 +9,7 @@ use Rattle.ep_claim.specs.Lanes.ReplayRun.{Mismatch, Replaying, begun_replay, en
 use Rattle.ep_claim.specs.Lanes.WholeReplay.{ReplayEnds, Stops, cardless, mismatch_after, no_cards, replay_after, trace_probe, turn_unless, without_cards}
 use Rattle.ep_claim.specs.Lanes.WholeRun.{Run, is_live, run_step, takes_turn}
 use Rattle.ep_claim.specs.Text.TraceLine.{TraceLine}
-use Rattle.ep_claim.specs.Lanes.Probing.{told}
+use Rattle.ep_claim.specs.Lanes.Probing.{probe_told}
 use Rattle.scenario.specs.Jobs.{job_of, talk_in}
 use Rattle.scenario.specs.Scenario.{Work}
 use Rattle.lane_run.specs.Works.{LaneWork, all_jobs}
@@ -120,7 +120,7 @@ module _ (settings : Config) (fsdi : ℕ) (turns : List ℕ) (before : ReplaySta
       (subst (λ p. RunEnds has_failed false trace_probe fsdi turns p (all_jobs settings (all_played (λ _. no_cards) before.works)) over text q) begun e)
 
   pub replayed : (over : Bool) (after : ReportState Replaying) (mismatch : Option Mismatch)
-      → RunsTo (told trace_probe) has_failed settings false fsdi turns run_before after over
+      → RunsTo (probe_told trace_probe) has_failed settings false fsdi turns run_before after over
       → mismatch ≡ (finishes after.probe).1.failure → Replayed settings fsdi turns before after.written mismatch
   replayed over after mismatch runs is =
       let r = runs trace_probe (λ p lane ask given heard q e. e) in (
@@ -130,7 +130,7 @@ module _ (settings : Config) (fsdi : ℕ) (turns : List ℕ) (before : ReplaySta
         r.2,
       )
 
-  pub replayed_part : (written : Option (List ℕ)) → RunsPart (told trace_probe) has_failed settings false fsdi turns run_before written
+  pub replayed_part : (written : Option (List ℕ)) → RunsPart (probe_told trace_probe) has_failed settings false fsdi turns run_before written
       → ReplayedPart settings fsdi turns before written
   replayed_part written runs =
       let r = runs trace_probe (λ p lane ask given heard q e. e) in (

@@ -15,7 +15,7 @@ impl Answers<ByTrace> for Replay {
     ghost use Rattle.std.specs.Prelude.{is_some, refl};
     ghost use Rattle.ep_claim.specs.Lanes.ReplayRun.{Replaying};
     ghost use Rattle.ep_claim.specs.Lanes.WholeReplay.{no_cards, trace_probe};
-    ghost use Rattle.ep_claim.specs.Lanes.Probing.{told};
+    ghost use Rattle.ep_claim.specs.Lanes.Probing.{probe_told};
     ghost use Rattle.lane_run.specs.Blank.{IsBlank, no_cards_blank};
     ghost use Rattle.trace_io.specs.Replays.{replaying_of};
 
@@ -23,7 +23,7 @@ impl Answers<ByTrace> for Replay {
 
     ghost state = { replaying_of };
 
-    ghost steps = { told trace_probe };
+    ghost steps = { probe_told trace_probe };
 
     ghost has_failed = { λ s. is_some s.failure };
 

@@ -134,13 +134,13 @@ struct Deaf {
 }
 
 impl Probe for Deaf {
-    ghost use Rattle.ep_claim.specs.Lanes.Probing.{untold};
+    ghost use Rattle.ep_claim.specs.Lanes.Probing.{probe_untold};
 
     ghost State = { Unit {0} };
 
     ghost state = { λ _. tt };
 
-    ghost steps = { untold };
+    ghost steps = { probe_untold };
 
     fn hear(&mut self, _lane: u8, _ask: &Ask, heard: &Heard) -> Heard {
         self.hearings = self.hearings.saturating_add(1);

@@ -10,7 +10,7 @@ use Rattle.ep_base.specs.Link.Wire.{comes_back}
 use Rattle.ep_base.specs.Air.Medium.{told}
 use Rattle.ep_base.specs.Link.ReaderEnd.{Reader, ReaderTurn, Asks, Gives, Spends, Breaks, asked, begin}
 use Rattle.ep_base.specs.Link.LinkFrames.{LinkSetting}
-use Rattle.ep_base.specs.Link.Carry.{SendsBlock, turn_on, GoesOn, Follows}
+use Rattle.ep_base.specs.Link.Carry.{SendsBlock, turn_on, FollowsOn, Follows}
 use Rattle.ep_base.specs.Cards.Field.{Field, field, field_send, field_hears, joined}
 use Rattle.law_link.specs.Bounds.{IsEnded}
 use Rattle.law_link.proofs.Bounding.{command_ends}
@@ -33,12 +33,12 @@ module _ (set : LinkSetting) where
   Partly n r f = (hs : List Heard) × (turn : ReaderTurn) × (g : Field) × Follows (told field) set hs r f turn g × (length hs ≤ n) × (IsEnded turn ⊎ (length hs ≡ n))
 
   last_heard : (n : ℕ) (r : Reader) (f g : Field) (h : Heard) (next : ReaderTurn) → SendsBlock (told field) set f (asked r) (Some h) g → turn_on set r h ≡ next
-      → GoesOn (λ p v. Follows (told field) set [] p v next g) next [] g next g → IsEnded next → Partly (suc n) r f
+      → FollowsOn (λ p v. Follows (told field) set [] p v next g) next [] g next g → IsEnded next → Partly (suc n) r f
   last_heard n r f g h next is e x ended = (
     h ∷ [],
     next,
     g,
-    (g, is, subst (λ (c : ReaderTurn). GoesOn (λ p v. Follows (told field) set [] p v next g) c [] g next g) (sym e) x),
+    (g, is, subst (λ (c : ReaderTurn). FollowsOn (λ p v. Follows (told field) set [] p v next g) c [] g next g) (sym e) x),
     omega arith,
     inl ended,
   )
@@ -51,7 +51,7 @@ module _ (set : LinkSetting) where
         h ∷ x.0,
         x.1,
         x.2,
-        (g, is, subst (λ (c : ReaderTurn). GoesOn (λ p v. Follows (told field) set x.0 p v x.1 x.2) c x.0 g x.1 x.2) (sym e) x.3),
+        (g, is, subst (λ (c : ReaderTurn). FollowsOn (λ p v. Follows (told field) set x.0 p v x.1 x.2) c x.0 g x.1 x.2) (sym e) x.3),
         omega (arith, few),
         elim x.5 [ inl y ↦ inl y | inr y ↦ inr (ap suc y) ],
       )

@@ -9,7 +9,7 @@ use Rattle.ep_base.specs.Link.ReaderEnd.{Reader, Asks, Gives, Spends, Breaks, as
 use Rattle.ep_base.specs.Link.LinkFrames.{LinkSetting}
 use Rattle.ep_base.specs.Air.Medium.{told, Exchanges, ExchangesBy}
 use Rattle.ep_base.specs.Poll.Polling.{AfterExchange, Plays}
-use Rattle.ep_base.specs.Link.Carry.{SendsBlock, turn_on, GoesOn, Follows}
+use Rattle.ep_base.specs.Link.Carry.{SendsBlock, turn_on, FollowsOn, Follows}
 use Rattle.ep_base.specs.Cards.Field.{Field, field, field_reset, field_send}
 use Rattle.ep_claim.specs.Lanes.Steps.{times}
 use Rattle.ep_base.specs.Poll.Radio.{OpenLink}
@@ -118,7 +118,7 @@ module _ (fsdi : ℕ) (talk : Talk) where
         subst (λ v. LeadsBy n set turn f last v) (sym same) (subst (λ z. LeadsBy n set turn f z f) (sym is) (stays_in n (after_turn talk results set turn) f))
 
     turned : (n : ℕ) (set : LinkSetting) (hs : List Heard) (turn last : reader.ReaderTurn) (f g : Field) → ((q : Reader) → Follows (told field) set hs q f last g → LeadsBy n set (Asks q) f last g)
-        → GoesOn (λ q v. Follows (told field) set hs q v last g) turn hs f last g → LeadsBy n set turn f last g
+        → FollowsOn (λ q v. Follows (told field) set hs q v last g) turn hs f last g → LeadsBy n set turn f last g
     turned n set hs (Asks q) last f g more x = more q x
     turned n set hs (Gives response q) last f g more x = last_turn n set (Gives response q) last f g x.1 x.2
     turned n set hs (Spends q) last f g more x = last_turn n set (Spends q) last f g x.1 x.2

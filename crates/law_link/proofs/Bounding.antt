@@ -7,7 +7,7 @@ use Rattle.ep_base.specs.Link.Block.{I, RAck, RNak, Deselect, Wtx, ReadBlock, Ba
 use Rattle.ep_base.specs.Link.Parts.{cut_by, cut}
 use Rattle.ep_base.specs.Link.ReaderEnd.{Phase, Idle, Sending, Receiving, Reader, question, asked, ReaderTurn, Asks, Gives, Spends, Breaks, is_fit, takes, appended, on_i, on_ack, on_bad, on_wtx, kept, reader_hears, begin}
 use Rattle.ep_base.specs.Link.CardEnd.{CommandRules, Card, Answer}
-use Rattle.ep_base.specs.Link.OneLink.{Frames, BlockFate, goes_down, comes_up, continues, hears_answer, run_command}
+use Rattle.ep_base.specs.Link.OneLink.{Frames, BlockFate, goes_down, comes_up, goes_on_by, hears_answer, run_command}
 use Rattle.law_link.specs.Bounds.{after_all, IsBounded, IsEnded, IsOver, toggle_of, toggle, toggles_in, BoundedToggles, CommandEnds, LinkEnds, FewToggles}
 
 -- an R(ACK) without a toggle
@@ -201,7 +201,7 @@ ended frame [] r k o le = absurd (omega (arith, some_work r k o, le))
 ended frame (h ∷ hs) r k o le = ended_from frame hs r (ended frame hs) le (reader_hears frame r h) (reader_falls frame r k o h)
 
 -- the link
-over_from : (frames : Frames) (image : CommandRules) (fates : List BlockFate) (card : Card) (old : Reader) → ((r : Reader) → IsKept r.since → IsOpen r.phase → work r ≤ length fates → IsOver (run_command frames image fates r card)) → work old ≤ suc (length fates) → (t : ReaderTurn) → Falls old t → IsOver (continues (run_command frames image fates) fates t card)
+over_from : (frames : Frames) (image : CommandRules) (fates : List BlockFate) (card : Card) (old : Reader) → ((r : Reader) → IsKept r.since → IsOpen r.phase → work r ≤ length fates → IsOver (run_command frames image fates r card)) → work old ≤ suc (length fates) → (t : ReaderTurn) → Falls old t → IsOver (goes_on_by (run_command frames image fates) fates t card)
 over_from frames image fates card old next le (Asks r) f = next r f.0 f.1 (omega (arith, f.2, le))
 over_from frames image fates card old next le (Gives response r) f = tt
 over_from frames image fates card old next le (Spends r) f = tt

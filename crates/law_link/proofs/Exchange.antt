@@ -12,7 +12,7 @@ use Rattle.ep_base.specs.Link.ReaderEnd as Rules
 use Rattle.ep_base.specs.Link.ReaderEnd.{begin}
 use Rattle.ep_base.specs.Cards.CardAnswer.{Answered}
 use Rattle.ep_base.specs.Link.CardEnd.{CommandRules, Parts, Waits, Card, Answer, sends_first, executes, card_hears}
-use Rattle.ep_base.specs.Link.OneLink.{Frames, BlockFate, goes_down, continues, hears_answer, run_command}
+use Rattle.ep_base.specs.Link.OneLink.{Frames, BlockFate, goes_down, goes_on_by, hears_answer, run_command}
 use Rattle.law_link.specs.Once.{IsImage, AreFrames, IsIdle, ExactlyOnce, OneCommand, is_loss, losses, IsSafe}
 use Rattle.law_link.proofs.Cutting.{AllFit, cut_joins, cut_fits}
 
@@ -278,7 +278,7 @@ module _ (frames : Frames) (image : CommandRules) (before : List (List ℕ)) (co
   Rest : List BlockFate → Type 0
   Rest fates = (m : Bool) (place : Place) (s : List ReadBlock) → Fine place → Fits m place s → count is_bad s ≤ 2 → ExactlyOnce image before command (run_command frames image fates (reader_at m place s) (card_at m place))
 
-  then_rest : (fates : List BlockFate) → Rest fates → (t : ReaderTurn) (card : Card) → GoodTurn t card → ExactlyOnce image before command (continues (run_command frames image fates) fates t card)
+  then_rest : (fates : List BlockFate) → Rest fates → (t : ReaderTurn) (card : Card) → GoodTurn t card → ExactlyOnce image before command (goes_on_by (run_command frames image fates) fates t card)
   unfolding Rest
   then_rest fates rest (Asks r) card g = rw (g.6, g.7) (rest g.0 g.1 g.2 g.3 g.4 g.5)
   then_rest fates rest (Gives response r) card g = g
@@ -363,7 +363,7 @@ module _ (frames : Frames) (image : CommandRules) (before : List (List ℕ)) (co
   Few : List BlockFate → Type 0
   Few fates = (m : Bool) (place : Place) (s : List ReadBlock) → Fine place → Fits m place s → count is_bad s ≤ 2 → count is_bad s + losses fates ≤ 2 → IsSafe (run_command frames image fates (reader_at m place s) (card_at m place))
 
-  then_few : (fates : List BlockFate) → Few fates → (n : ℕ) → n + losses fates ≤ 2 → (t : ReaderTurn) (card : Card) → GoodTurn t card → Keeps n t → IsSafe (continues (run_command frames image fates) fates t card)
+  then_few : (fates : List BlockFate) → Few fates → (n : ℕ) → n + losses fates ≤ 2 → (t : ReaderTurn) (card : Card) → GoodTurn t card → Keeps n t → IsSafe (goes_on_by (run_command frames image fates) fates t card)
   unfolding Few
   then_few fates few n le (Asks r) card g k =
       let same_count : count is_bad r.since ≡ count is_bad g.2 = ap (λ (x : Reader). count is_bad x.since) g.6 in

@@ -5,7 +5,7 @@ use Rattle.ep_base.specs.Link.Block.{ReadBlock}
 use Rattle.ep_base.specs.Link.ReaderEnd.{Reader, ReaderTurn, Asks, Gives, Spends, Breaks}
 use Rattle.ep_base.specs.Link.LinkFrames.{LinkSetting, heard_block}
 use Rattle.ep_base.specs.Air.Medium.{MediumSteps}
-use Rattle.ep_base.specs.Link.Carry.{turn_on, GoesOn, Follows}
+use Rattle.ep_base.specs.Link.Carry.{turn_on, FollowsOn, Follows}
 use Rattle.law_link.specs.Bounds.{after_all}
 
 module _ {S : Type 0} (steps : MediumSteps S) (set : LinkSetting) where
@@ -17,7 +17,7 @@ module _ {S : Type 0} (steps : MediumSteps S) (set : LinkSetting) where
   After hs turn = after_all set.frames.reader (read hs) turn
 
   goes : (next : ReaderTurn) (hs : List Heard) (s t : S) (turn : ReaderTurn) → ((q : Reader) → Follows steps set hs q s turn t → turn ≡ After hs (Asks q))
-      → GoesOn (λ q v. Follows steps set hs q v turn t) next hs s turn t → turn ≡ After hs next
+      → FollowsOn (λ q v. Follows steps set hs q v turn t) next hs s turn t → turn ≡ After hs next
   unfolding read
   goes (Asks q) hs s t turn more x = more q x
   goes (Gives response q) hs s t turn more x = subst (λ ys. turn ≡ After ys (Gives response q)) (sym x.0) x.1

@@ -4,7 +4,7 @@ use Rattle.ep_base.specs.Air.Heard.{Heard, wave_of_kind}
 use Rattle.ep_base.specs.Link.ReaderEnd.{Reader, ReaderTurn, Asks, Gives, Spends, Breaks, asked}
 use Rattle.ep_base.specs.Link.LinkFrames.{LinkSetting}
 use Rattle.ep_base.specs.Air.Medium.{told}
-use Rattle.ep_base.specs.Link.Carry.{SendsBlock, turn_on, GoesOn, Follows, OfLink}
+use Rattle.ep_base.specs.Link.Carry.{SendsBlock, turn_on, FollowsOn, Follows, OfLink}
 use Rattle.ep_base.specs.Link.Block.{Block}
 use Rattle.ep_base.specs.Cards.Field.{Field, field_send, field}
 use Rattle.ep_base.specs.Cards.CardAnswer.{Image, IsImage}
@@ -27,7 +27,7 @@ once_in_field_law set n s r command hs turn t good of rest legal x =
 
 module _ (set : LinkSetting) (n : ℕ) (P : Field → Type 0) (step : (s t : Field) (b : Block) (heard : Option Heard) → is_open set.kind n s ≡ true → SendsBlock (told field) set s b heard t → P s → P t) where
   goes_along : (next : ReaderTurn) (hs : List Heard) (s : Field) (turn : ReaderTurn) (t : Field) → P s
-      → ((q : Reader) → Follows (told field) set hs q s turn t → P t) → GoesOn (λ q v. Follows (told field) set hs q v turn t) next hs s turn t → P t
+      → ((q : Reader) → Follows (told field) set hs q s turn t → P t) → FollowsOn (λ q v. Follows (told field) set hs q v turn t) next hs s turn t → P t
   goes_along (Asks q) hs s turn t p more x = more q x
   goes_along (Gives response q) hs s turn t p more x = subst P (sym x.2) p
   goes_along (Spends q) hs s turn t p more x = subst P (sym x.2) p

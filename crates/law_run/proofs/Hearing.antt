@@ -5,7 +5,7 @@ use Rattle.ep_rules.specs.EntryPoint.Event.{OwnEvent, Event as EventData, Tells,
 use Rattle.ep_rules.specs.EntryPoint.Talk.{Talk, Over, Say, Poll, Command, Close, Result, Round, Response, Closed, Polls, Commands, Closes, Nothing, so_far}
 use Rattle.ep_base.specs.Poll.Transport.{TransportSteps, PresentResult, Here, Nobody, Gone, Reply, Answered, Spent, Breached, Lost}
 use Rattle.ep_rules.specs.EntryPoint.EventSteps.{EventSteps}
-use Rattle.ep_rules.specs.EntryPoint.TransportRun.{RunEnd, Ended, DeviceFailed, EventsFailed, RunLeft, Leaves, Takes, Ends, AfterPresent, AfterReply, AfterClose, Runs, first_end, more_ends, HearEnd, Whole, AtLink, AtBreach, AtDevice, Hears, all_taken, said_for, end_said}
+use Rattle.ep_rules.specs.EntryPoint.TransportRun.{RunEnd, Ended, DeviceFailed, EventsFailed, RunLeft, Leaves, TakesEvent, Ends, AfterPresent, AfterReply, AfterClose, Runs, first_end, more_ends, HearEnd, Whole, AtLink, AtBreach, AtDevice, Hears, all_taken, said_for, end_said}
 use Rattle.law_run.specs.Heard.{Hearing}
 use Rattle.ep_rules.specs.EntryPoint.Became.{Says, Wishes, HearsPart, RanBy}
 
@@ -107,7 +107,7 @@ module _ {T E : Type 0} (link : TransportSteps T) (events : EventSteps E) where
 
   say_ran : (x : OwnEvent) (next : Talk) (more : List RoundEnd) (t : T) (e : E) (left : RunLeft T E)
       → (Runs link events next more t (events.take e (Tells x)) left → RanBy link events next more t (events.take e (Tells x)) left left.ending)
-      → Takes link events (Tells x) t e left (λ f. Runs link events next more t f left)
+      → TakesEvent link events (Tells x) t e left (λ f. Runs link events next more t f left)
       → RanBy link events (Say x next) more t e left left.ending
   say_ran x next more t e left again (inl (l, cut, is)) =
       cut_at (Say x next) more t e left (Tells x) [] Whole ((so_far next []).events ++ []) t l refl (stops_here next more t left.transport) cut is

@@ -8,7 +8,7 @@ use Rattle.ep_rules.specs.EntryPoint.Talk.{Talk, Over, Say, Poll, Command, Close
 use Rattle.ep_base.specs.Cards.CardAnswer.{Image, card_answer, deselected}
 use Rattle.ep_base.specs.Poll.Transport.{Reply, Answered, Lost}
 use Rattle.ep_rules.specs.EntryPoint.EventSteps.{EventSteps}
-use Rattle.ep_rules.specs.EntryPoint.TransportRun.{RunEnd, Ended, DeviceFailed, EventsFailed, RunLeft, Leaves, Takes, AfterPresent, AfterReply, AfterClose, Runs, all_taken}
+use Rattle.ep_rules.specs.EntryPoint.TransportRun.{RunEnd, Ended, DeviceFailed, EventsFailed, RunLeft, Leaves, TakesEvent, AfterPresent, AfterReply, AfterClose, Runs, all_taken}
 use Rattle.ep_base.specs.Cards.Images.{Rules, stored}
 use Rattle.ep_rules.specs.EntryPoint.Perfect.{Channel, channel, presents, perfect, at_command}
 use Rattle.ep_base.specs.Cards.Direct.{Direct, direct, direct_reply, presented_anew, image_rules}
@@ -132,7 +132,7 @@ module _ {E : Type 0} (events : EventSteps E) (left : RunLeft Direct E) where
     -- After an answer.
     answered_plays : (c : List ℕ) (next : List ℕ → Talk) (ends m : ℕ) (d : Direct) (ch : Channel Image) (e : E) (a : List ℕ) (i : Image) (h : Channel Image) → Plays (next a)
         → At true (direct_of d.card i (d.log ++ (d.image.number, c) ∷ []) d.room) h → d.image.number ≡ n → IsLegal (λ c. true) true (next a) → AtMost (m - 1) (next a) → 0 < m → length d.log + m ≤ d.room → AtMostStarts ends (next a)
-        → Takes direct events (Apdu c a) (direct_of d.card i (d.log ++ (d.image.number, c) ∷ []) d.room) e left (λ f. Runs direct events (next a) [] (direct_of d.card i (d.log ++ (d.image.number, c) ∷ []) d.room) f left)
+        → TakesEvent direct events (Apdu c a) (direct_of d.card i (d.log ++ (d.image.number, c) ∷ []) d.room) e left (λ f. Runs direct events (next a) [] (direct_of d.card i (d.log ++ (d.image.number, c) ∷ []) d.room) f left)
         → PerfectBy events (Apdu c a ∷ (so_far (next a) (perfect one (next a) (replicate ends (Found d.card)) h).results).events) ((n, c) ∷ (perfect one (next a) (replicate ends (Found d.card)) h).commands)
         ((channel_after one (next a) (replicate ends (Found d.card)) h).images n) d e left left.ending
     answered_plays c next ends m d ch e a i h again now number legal most some room starts (inl (l, cut, is)) =

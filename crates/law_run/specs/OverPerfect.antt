@@ -11,7 +11,7 @@ use Rattle.ep_rules.specs.EntryPoint.TransportRun.{RunLeft, Runs}
 use Rattle.ep_rules.specs.EntryPoint.Perfect.{channel, perfect, perfect_events}
 use Rattle.ep_base.specs.Cards.Direct.{Direct, direct}
 use Rattle.ep_rules.specs.EntryPoint.Bounds.{AtMost, AtMostStarts, log_bound}
-use Rattle.ep_rules.specs.EntryPoint.OverChannel.{channel_after, PerfectBy, rules_of, ends_of}
+use Rattle.ep_rules.specs.EntryPoint.OverChannel.{channel_after, PerfectBy, rules_of, found_ends}
 
 -- A talk that the perfect channel can carry: commands go to a card that was found, and the log has room for all of them.
 pub record Carries (talk : Talk) (d : Direct) (images : ℕ → Image) (ends : ℕ) : Type 0 where
@@ -26,9 +26,9 @@ pub record Carries (talk : Talk) (d : Direct) (images : ℕ → Image) (ends : �
 abbrev pub IsPerfect : {E : Type 0} → EventSteps E → Talk → Direct → (ℕ → Image) → ℕ → E → RunLeft Direct E → Type 0
 IsPerfect events talk d images ends e left =
     PerfectBy events
-    (perfect_events (rules_of d) talk (ends_of ends d) images)
-    (perfect (rules_of d) talk (ends_of ends d) (channel images)).commands
-    ((channel_after (rules_of d) talk (ends_of ends d) (channel images)).images d.image.number)
+    (perfect_events (rules_of d) talk (found_ends ends d) images)
+    (perfect (rules_of d) talk (found_ends ends d) (channel images)).commands
+    ((channel_after (rules_of d) talk (found_ends ends d) (channel images)).images d.image.number)
     d e left left.ending
 
 -- Every run over the perfect channel is the perfect run for the one card in each Start B, and no device fails.

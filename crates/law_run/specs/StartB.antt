@@ -7,15 +7,15 @@ use Rattle.ep_rules.specs.EntryPoint.Talk.{Talk}
 use Rattle.ep_rules.specs.EntryPoint.Transaction.{start_b}
 use Rattle.ep_base.specs.Poll.Transport.{TransportSteps, PresentResult, Here, Nobody, Gone}
 use Rattle.ep_rules.specs.EntryPoint.EventSteps.{EventSteps}
-use Rattle.ep_rules.specs.EntryPoint.TransportRun.{DeviceFailed, RunLeft, Leaves, Takes, Ends, Runs}
+use Rattle.ep_rules.specs.EntryPoint.TransportRun.{DeviceFailed, RunLeft, Leaves, TakesEvent, Ends, Runs}
 
 module _ {T E : Type 0} (link : TransportSteps T) (events : EventSteps E) (next : Activated → Talk) where
   -- After a presentation: the message where some round collided, and then the card's talk or the end without a card.
   abbrev pub AfterStartB : PresentResult → T → E → RunLeft T E → Type 0
   AfterStartB (Here false card) u e left = Runs link events (next card) [] u e left
-  AfterStartB (Here true card) u e left = Takes link events (Tells (Notice OneCardOnly)) u e left (λ f. Runs link events (next card) [] u f left)
+  AfterStartB (Here true card) u e left = TakesEvent link events (Tells (Notice OneCardOnly)) u e left (λ f. Runs link events (next card) [] u f left)
   AfterStartB (Nobody false) u e left = Ends link events (End NoCard) u e left
-  AfterStartB (Nobody true) u e left = Takes link events (Tells (Notice OneCardOnly)) u e left (λ f. Ends link events (End NoCard) u f left)
+  AfterStartB (Nobody true) u e left = TakesEvent link events (Tells (Notice OneCardOnly)) u e left (λ f. Ends link events (End NoCard) u f left)
   AfterStartB Gone u e left = Leaves left DeviceFailed u e
 
   -- A Start B runs so exactly where one of its presentations goes on so.

@@ -7,7 +7,7 @@ use Rattle.ep_base.specs.Link.LinkFrames.{LinkSetting}
 use Rattle.ep_base.specs.Air.Medium.{MediumSteps, told}
 use Rattle.ep_base.specs.Link.ReaderEnd.{Reader, ReaderTurn, Asks, Gives, Spends, Breaks, asked, begin}
 use Rattle.ep_base.specs.Link.Wire.{Wire, wire}
-use Rattle.ep_base.specs.Link.Carry.{ActsAs, AtRest, OfLink, GoesOn, Follows, turn_on}
+use Rattle.ep_base.specs.Link.Carry.{ActsAs, AtRest, OfLink, FollowsOn, Follows, turn_on}
 use Rattle.law_wire.specs.Alike.{CarriedAlike}
 use Rattle.law_wire.proofs.Carrying.{IsUnspent, carried_once_lem, unspent_lem}
 
@@ -16,8 +16,8 @@ module _ {S : Type 0} (steps : MediumSteps S) (set : LinkSetting) (good : S → 
   AsWire : List Heard → Type 0
   AsWire hs = (r : Reader) (s : S) (turn : ReaderTurn) (t : S) → good s ≡ true → Follows steps set hs r s turn t → Follows (told wire) set hs r (shown s) turn (shown t) × (good t ≡ true)
 
-  goes_alike : (hs : List Heard) → AsWire hs → (turn : ReaderTurn) (t : S) (x : ReaderTurn) (u : S) → good u ≡ true → GoesOn (λ q v. Follows steps set hs q v turn t) x hs u turn t
-      → GoesOn (λ q v. Follows (told wire) set hs q v turn (shown t)) x hs (shown u) turn (shown t) × (good t ≡ true)
+  goes_alike : (hs : List Heard) → AsWire hs → (turn : ReaderTurn) (t : S) (x : ReaderTurn) (u : S) → good u ≡ true → FollowsOn (λ q v. Follows steps set hs q v turn t) x hs u turn t
+      → FollowsOn (λ q v. Follows (told wire) set hs q v turn (shown t)) x hs (shown u) turn (shown t) × (good t ≡ true)
   unfolding AsWire
   goes_alike hs again turn t (Asks r) u is on = again r u turn t is on
   goes_alike hs again turn t (Gives response r) u is on = ((on.0, on.1, ap shown on.2), subst (λ (v : S). good v ≡ true) (sym on.2) is)

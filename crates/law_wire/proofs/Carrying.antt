@@ -17,7 +17,7 @@ use Rattle.ep_base.specs.Link.OneLink.{goes_down, comes_up}
 use Rattle.ep_base.specs.Link.Spelling.{spelled}
 use Rattle.ep_base.specs.Link.LinkFrames.{LinkSetting, heard_block}
 use Rattle.ep_base.specs.Link.Wire.{Heeded, Wire, wire, wire_heeds, moved, unmoved, answers_by, takes_block, maybe_frame, aired, comes_back, by_commands, image_after}
-use Rattle.ep_base.specs.Link.Carry.{SendsBlock, GoesOn, Follows, AtRest, OfLink, AtMostOnce, Executed, OnceSo, CarriedOnce}
+use Rattle.ep_base.specs.Link.Carry.{SendsBlock, FollowsOn, Follows, AtRest, OfLink, AtMostOnce, Executed, OnceSo, CarriedOnce}
 use Rattle.law_link.specs.Once.{IsImage, AreFrames, IsIdle}
 use Rattle.law_link.proofs.Exchange.{Place, Before, reader_at, card_at, Fine, Fits, GoodTurn, Keeps, log_at, taken, exchange, keeps}
 use Rattle.law_link.proofs.Cutting.{cut_joins}
@@ -239,7 +239,7 @@ module _ (set : LinkSetting) (w0 : Wire) (of : OfLink set w0) where
         → Follows (told wire) set hs (At m place s) w turn t → OnceSo w0 command turn t
 
     then_rest : (hs : List Heard) → Rest hs → (turn : ReaderTurn) (t : Wire) (x : ReaderTurn) (card : Card) (u : Wire) → GoodTurn set.frames image [] command x card → Shows u card
-        → GoesOn (λ q v. Follows (told wire) set hs q v turn t) x hs u turn t → OnceSo w0 command turn t
+        → FollowsOn (λ q v. Follows (told wire) set hs q v turn t) x hs u turn t → OnceSo w0 command turn t
     unfolding Rest
     then_rest hs rest turn t (Asks r) card u g shows on =
         let at : Follows (told wire) set hs (At g.0 g.1 g.2) u turn t = subst (λ (q : Reader). Follows (told wire) set hs q u turn t) g.6 on in
@@ -264,7 +264,7 @@ module _ (set : LinkSetting) (w0 : Wire) (of : OfLink set w0) where
         let sent : Sent (asked (At m place s)) = asked_sent set.frames image [] command sized linked reply_is.wtxm_least reply_is.wtxm_most m place s fits in
         let x = one_exchange w (card_at set.frames image [] command m place) shows (asked (At m place s)) sent (may_answer m place s fine fits) h follows.0 follows.1 in
         let good = exchange set.frames image [] command sized linked legal m place s fine fits le x.down x.up in
-        let on = subst (λ (k : ReadBlock). GoesOn (λ q v. Follows (told wire) set hs q v turn t) (reader_hears set.frames.reader (At m place s) k) hs follows.0 turn t) x.heard follows.2 in
+        let on = subst (λ (k : ReadBlock). FollowsOn (λ q v. Follows (told wire) set hs q v turn t) (reader_hears set.frames.reader (At m place s) k) hs follows.0 turn t) x.heard follows.2 in
         then_rest hs (all_hearings hs) turn t _ _ follows.0 good x.later on
 
     -- ---- where every frame passes
@@ -292,7 +292,7 @@ module _ (set : LinkSetting) (w0 : Wire) (of : OfLink set w0) where
 
     then_unspent : (hs : List Heard) → Unspent hs → (turn : ReaderTurn) (t : Wire) (x : ReaderTurn) (card : Card) (u : Wire) → GoodTurn set.frames image [] command x card
         → Keeps set.frames image [] command 0 x → Shows u card → u.air.gone ≡ false → AllPass u.air.fates
-        → GoesOn (λ q v. Follows (told wire) set hs q v turn t) x hs u turn t → IsUnspent turn
+        → FollowsOn (λ q v. Follows (told wire) set hs q v turn t) x hs u turn t → IsUnspent turn
     unfolding Unspent
     then_unspent hs rest turn t (Asks r) card u g none shows here all on =
         let at : Follows (told wire) set hs (At g.0 g.1 g.2) u turn t = subst (λ (q : Reader). Follows (told wire) set hs q u turn t) g.6 on in
@@ -311,7 +311,7 @@ module _ (set : LinkSetting) (w0 : Wire) (of : OfLink set w0) where
         let x = passed_exchange w (card_at set.frames image [] command m place) shows (asked (At m place s)) sent (may_answer m place s fine fits) here all (has_room w m place shows) h follows.0 follows.1 in
         let good = exchange set.frames image [] command sized linked legal m place s fine fits (omega (arith, le)) true true in
         let none = keeps set.frames image [] command linked legal m place s fine fits (record { down = true; up = true }) 0 (omega (arith, le)) in
-        let on = subst (λ (k : ReadBlock). GoesOn (λ q v. Follows (told wire) set hs q v turn t) (reader_hears set.frames.reader (At m place s) k) hs follows.0 turn t) x.heard follows.2 in
+        let on = subst (λ (k : ReadBlock). FollowsOn (λ q v. Follows (told wire) set hs q v turn t) (reader_hears set.frames.reader (At m place s) k) hs follows.0 turn t) x.heard follows.2 in
         then_unspent hs (all_unspent hs) turn t _ _ follows.0 good none x.later x.gone x.fates on
 
 idle_card : (card : Card) → card.taken ≡ [] → card.left ≡ Parts [] → card.log ≡ [] → card ≡ record { number = card.number; last = card.last; taken = []; left = Parts []; log = [] }

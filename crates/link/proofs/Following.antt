@@ -9,7 +9,7 @@ use Rattle.ep_base.specs.Link.ReaderEnd.{Reader, ReaderTurn, Asks, Gives, Spends
 use Rattle.ep_base.specs.Link.Spelling.{spelled}
 use Rattle.ep_base.specs.Link.LinkFrames.{LinkSetting, BreachData, block_ask}
 use Rattle.ep_base.specs.Link.Wire.{Wire, wire_send}
-use Rattle.ep_base.specs.Link.Carry.{SendsBlock, turn_on, GoesOn, Follows, AtRest, OfLink, OnceSo, ActsAs}
+use Rattle.ep_base.specs.Link.Carry.{SendsBlock, turn_on, FollowsOn, Follows, AtRest, OfLink, OnceSo, ActsAs}
 use Rattle.law_wire.proofs.Alike.{carried_alike_lem}
 use Rattle.block_reader.specs.declared.ends.Next.{Next}
 use Rattle.block_reader.specs.declared.ends.Next.TheVariants.{Ask, Done, Failed}
@@ -26,7 +26,7 @@ reader_of (Breaks r) = r
 
 module _ {S : Type 0} (steps : MediumSteps S) (set : LinkSetting) where
   -- the turn itself is the end
-  ends_here : (x : ReaderTurn) (t : S) → GoesOn (λ q v. Follows steps set [] q v x t) x [] t x t
+  ends_here : (x : ReaderTurn) (t : S) → FollowsOn (λ q v. Follows steps set [] q v x t) x [] t x t
   ends_here (Asks r) t = (refl, refl)
   ends_here (Gives response r) t = (refl, refl, refl)
   ends_here (Spends r) t = (refl, refl, refl)
@@ -37,8 +37,8 @@ module _ {S : Type 0} (steps : MediumSteps S) (set : LinkSetting) where
   More q u h t hs = (r : Reader) (s : S) → Follows steps set hs r s (Asks q) u → Follows steps set (hs ++ h ∷ []) r s (turn_on set q h) t
 
   goes_more : (q : Reader) (u : S) (h : Heard) (t : S) (hs : List Heard) → More q u h t hs → (x : ReaderTurn) (v : S)
-      → GoesOn (λ p w. Follows steps set hs p w (Asks q) u) x hs v (Asks q) u
-      → GoesOn (λ p w. Follows steps set (hs ++ h ∷ []) p w (turn_on set q h) t) x (hs ++ h ∷ []) v (turn_on set q h) t
+      → FollowsOn (λ p w. Follows steps set hs p w (Asks q) u) x hs v (Asks q) u
+      → FollowsOn (λ p w. Follows steps set (hs ++ h ∷ []) p w (turn_on set q h) t) x (hs ++ h ∷ []) v (turn_on set q h) t
   unfolding More
   goes_more q u h t hs again (Asks r) v on = again r v on
   goes_more q u h t hs again (Gives response r) v on = cc (on.1)
@@ -50,7 +50,7 @@ module _ {S : Type 0} (steps : MediumSteps S) (set : LinkSetting) where
   one_more q u h t sends [] r s follows =
       let same_reader : q ≡ r = ap reader_of follows.0 in
       let now : SendsBlock steps set s (asked r) (Some h) t = subst (λ (p : Reader). SendsBlock steps set s (asked p) (Some h) t) same_reader (subst (λ (v : S). SendsBlock steps set v (asked q) (Some h) t) follows.1 sends) in
-      (t, now, subst (λ (p : Reader). GoesOn (λ p' v. Follows steps set [] p' v (turn_on set q h) t) (turn_on set p h) [] t (turn_on set q h) t) same_reader (ends_here (turn_on set q h) t))
+      (t, now, subst (λ (p : Reader). FollowsOn (λ p' v. Follows steps set [] p' v (turn_on set q h) t) (turn_on set p h) [] t (turn_on set q h) t) same_reader (ends_here (turn_on set q h) t))
   one_more q u h t sends (x ∷ hs) r s follows =
       (follows.0, follows.1, goes_more q u h t hs (one_more q u h t sends hs) (turn_on set r x) follows.0 follows.2)
 

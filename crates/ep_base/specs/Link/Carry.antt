@@ -23,18 +23,18 @@ abbrev pub turn_on : LinkSetting → Reader → Heard → ReaderTurn
 turn_on set r h = reader_hears set.frames.reader r (heard_block set.kind set.frames.reader h)
 
 -- A turn that asks goes on with the rest of the hearings, and any other is the last one (this project's own).
-abbrev pub GoesOn : {S : Type 0} → (Reader → S → Type 0) → ReaderTurn → List Heard → S → ReaderTurn → S → Type 0
-GoesOn next (Asks r) hs s turn t = next r s
-GoesOn next (Gives response r) hs s turn t = (hs ≡ []) × (turn ≡ Gives response r) × (t ≡ s)
-GoesOn next (Spends r) hs s turn t = (hs ≡ []) × (turn ≡ Spends r) × (t ≡ s)
-GoesOn next (Breaks r) hs s turn t = (hs ≡ []) × (turn ≡ Breaks r) × (t ≡ s)
+abbrev pub FollowsOn : {S : Type 0} → (Reader → S → Type 0) → ReaderTurn → List Heard → S → ReaderTurn → S → Type 0
+FollowsOn next (Asks r) hs s turn t = next r s
+FollowsOn next (Gives response r) hs s turn t = (hs ≡ []) × (turn ≡ Gives response r) × (t ≡ s)
+FollowsOn next (Spends r) hs s turn t = (hs ≡ []) × (turn ≡ Spends r) × (t ≡ s)
+FollowsOn next (Breaks r) hs s turn t = (hs ≡ []) × (turn ≡ Breaks r) × (t ≡ s)
 
 -- From a reader that asks, these hearings, each the medium's answer to the block that is asked then, lead to this turn and this state of the
 -- medium (ISO/IEC 14443-4).
 abbrev pub Follows : {S : Type 0} → MediumSteps S → LinkSetting → List Heard → Reader → S → ReaderTurn → S → Type 0
 Follows steps set [] r s turn t = (turn ≡ Asks r) × (t ≡ s)
 Follows {S = S} steps set (h ∷ hs) r s turn t =
-    (u : S) × SendsBlock steps set s (asked r) (Some h) u × GoesOn (λ q v. Follows steps set hs q v turn t) (turn_on set r h) hs u turn t
+    (u : S) × SendsBlock steps set s (asked r) (Some h) u × FollowsOn (λ q v. Follows steps set hs q v turn t) (turn_on set r h) hs u turn t
 
 -- Between two commands both ends agree: the numbers differ, nothing is left of the last command, and the link isn't closed (ISO/IEC 14443-4).
 pub record AtRest (r : Reader) (card : Card) : Type 0 where

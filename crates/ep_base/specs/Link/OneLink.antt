@@ -32,11 +32,11 @@ pub data End : Type 0 where
   Spent : Reader → Card → End
   Breach : Reader → Card → End
 
-abbrev pub continues : (Reader → Card → End) → List BlockFate → ReaderTurn → Card → End
-continues next fates (Asks r) card = next r card
-continues next fates (Gives response r) card = Done response r card fates
-continues next fates (Spends r) card = Spent r card
-continues next fates (Breaks r) card = Breach r card
+abbrev pub goes_on_by : (Reader → Card → End) → List BlockFate → ReaderTurn → Card → End
+goes_on_by next fates (Asks r) card = next r card
+goes_on_by next fates (Gives response r) card = Done response r card fates
+goes_on_by next fates (Spends r) card = Spent r card
+goes_on_by next fates (Breaks r) card = Breach r card
 
 -- The reader's turn after what came up.
 abbrev pub hears_answer : Bool → Frames → Reader → Answer → ReaderTurn
@@ -46,5 +46,5 @@ hears_answer up frames r a = reader_hears frames.reader r (comes_up up a.block)
 abbrev pub run_command : Frames → CommandRules → List BlockFate → Reader → Card → End
 run_command frames image [] r card = Open r card
 run_command frames image (f ∷ fates) r card =
-    continues (run_command frames image fates) fates
+    goes_on_by (run_command frames image fates) fates
     (hears_answer f.up frames r (goes_down f.down frames image card (asked r))) (goes_down f.down frames image card (asked r)).card

@@ -21,9 +21,9 @@ card_in (Found card) = Some card
 
 module _ {S : Type 0} (steps : MediumSteps S) (fsdi : ℕ) where
   -- The round is over (this project's own).
-  abbrev pub IsOver : RoundTurn Stage → S → Option RoundEnd → S → Type 0
-  IsOver (Goes stage) s ending t = ⊥
-  IsOver (Ends e) s ending t = (ending ≡ Some e) × (t ≡ s)
+  abbrev pub RoundIsOver : RoundTurn Stage → S → Option RoundEnd → S → Type 0
+  RoundIsOver (Goes stage) s ending t = ⊥
+  RoundIsOver (Ends e) s ending t = (ending ≡ Some e) × (t ≡ s)
 
   -- After an exchange: the round goes on by what was heard, or has no end where the call failed (this project's own).
   abbrev pub AfterExchange : (Heard → S → Option RoundEnd → S → Type 0) → Option Heard → S → Option RoundEnd → S → Type 0
@@ -40,7 +40,7 @@ module _ {S : Type 0} (steps : MediumSteps S) (fsdi : ℕ) where
   -- With at most so many exchanges the round ends so, or not at all where a call failed, and leaves the medium so: from
   -- the first state to the second (this project's own).
   unfoldable pub Plays : ℕ → RoundTurn Stage → S → Option RoundEnd → S → Type 0
-  Plays zero turn s ending t = IsOver turn s ending t
+  Plays zero turn s ending t = RoundIsOver turn s ending t
   Plays (suc n) turn s ending t = GoesOn (Plays n) turn s ending t
 
   -- A round: it has at most `ROUND_EXCHANGES` exchanges (this project's profile).

@@ -45,7 +45,7 @@ has_collision [] = false
 has_collision (e ∷ es) = is_collision e || has_collision es
 
 -- The state is of the same reader, with this link (this project's own).
-pub record HasLink {S : Type 0} (link : Option OpenLink) (s t : Radio S) : Type 0 where
+pub record LeavesLink {S : Type 0} (link : Option OpenLink) (s t : Radio S) : Type 0 where
   pub same : t.fsdi ≡ s.fsdi
   pub links : t.link ≡ link
 
@@ -59,9 +59,9 @@ module _ {S : Type 0} (steps : MediumSteps S) where
   -- A presentation is rounds until one ends with a card, which opens a link to it; where none does, or the device fails, there is no link (this
   -- project's profile).
   abbrev pub RadioPresents : Radio S → PresentResult → Radio S → Type 0
-  RadioPresents s (Here collided card) t = Polls s collided (Came card) t × HasLink (Some (link_to s.fsdi card)) s t
-  RadioPresents s (Nobody collided) t = Polls s collided NoCard t × HasLink None s t
-  RadioPresents s Gone t = ((collided : Bool) × Polls s collided Device t) × HasLink None s t
+  RadioPresents s (Here collided card) t = Polls s collided (Came card) t × LeavesLink (Some (link_to s.fsdi card)) s t
+  RadioPresents s (Nobody collided) t = Polls s collided NoCard t × LeavesLink None s t
+  RadioPresents s Gone t = ((collided : Bool) × Polls s collided Device t) × LeavesLink None s t
 
   -- From the reader that has begun the command, some hearings lead to this turn (ISO/IEC 14443-4).
   pub record Comes (l : OpenLink) (command : List ℕ) (s : S) (turn : ReaderTurn) (t : S) : Type 0 where
@@ -71,16 +71,16 @@ module _ {S : Type 0} (steps : MediumSteps S) where
   -- The link is open for the next command only after a response. A block that could not be sent loses the link (ISO/IEC 14443-4).
   abbrev pub LinkTransacts : OpenLink → Radio S → List ℕ → Reply → Radio S → Type 0
   LinkTransacts l s command (Answered response) t =
-      (r : Reader) × Comes l command s.medium (Gives response r) t.medium × HasLink (Some (record { set = l.set; reader = r })) s t
-  LinkTransacts l s command Spent t = (r : Reader) × Comes l command s.medium (Spends r) t.medium × HasLink None s t
-  LinkTransacts l s command Breached t = (r : Reader) × Comes l command s.medium (Breaks r) t.medium × HasLink None s t
+      (r : Reader) × Comes l command s.medium (Gives response r) t.medium × LeavesLink (Some (record { set = l.set; reader = r })) s t
+  LinkTransacts l s command Spent t = (r : Reader) × Comes l command s.medium (Spends r) t.medium × LeavesLink None s t
+  LinkTransacts l s command Breached t = (r : Reader) × Comes l command s.medium (Breaks r) t.medium × LeavesLink None s t
   LinkTransacts l s command Lost t =
-      (r : Reader) × (u : S) × Comes l command s.medium (Asks r) u × SendsBlock steps l.set u (asked r) None t.medium × HasLink None s t
+      (r : Reader) × (u : S) × Comes l command s.medium (Asks r) u × SendsBlock steps l.set u (asked r) None t.medium × LeavesLink None s t
 
   -- Closing is one exchange of S(DESELECT), whose answer is ignored: it is well where the medium didn't fail (this project's profile).
   abbrev pub LinkCloses : OpenLink → Radio S → Bool → Radio S → Type 0
-  LinkCloses l s true t = (heard : Heard) × SendsBlock steps l.set s.medium Deselect (Some heard) t.medium × HasLink None s t
-  LinkCloses l s false t = SendsBlock steps l.set s.medium Deselect None t.medium × HasLink None s t
+  LinkCloses l s true t = (heard : Heard) × SendsBlock steps l.set s.medium Deselect (Some heard) t.medium × LeavesLink None s t
+  LinkCloses l s false t = SendsBlock steps l.set s.medium Deselect None t.medium × LeavesLink None s t
 
   -- A command takes an open link (this project's own).
   abbrev pub TransactsOver : Option OpenLink → Radio S → List ℕ → Reply → Radio S → Type 0

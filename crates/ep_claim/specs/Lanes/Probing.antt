@@ -8,12 +8,12 @@ pub record ProbeAnswers (P : Type 0) : Type 1 where
   pub hears : P → (lane : ℕ) → Ask → Heard → Heard → P → Type 0
 
 -- A probe that tells its step has one answer (this project's own).
-abbrev pub told : {P : Type 0} → ProbeSteps P → ProbeAnswers P
-told probe = record { hears = λ p lane ask given heard q. probe.hear p lane ask given ≡ (q, heard) }
+abbrev pub probe_told : {P : Type 0} → ProbeSteps P → ProbeAnswers P
+probe_told probe = record { hears = λ p lane ask given heard q. probe.hear p lane ask given ≡ (q, heard) }
 
 -- A probe that tells nothing has one state, and every answer (this project's own).
-abbrev pub untold : ProbeAnswers (Unit {0})
-untold = record { hears = λ _ _ _ _ _ _. ⊤ }
+abbrev pub probe_untold : ProbeAnswers (Unit {0})
+probe_untold = record { hears = λ _ _ _ _ _ _. ⊤ }
 
 -- A probe's answers are those of these steps (this project's own).
 abbrev pub Tells : {P : Type 0} → ProbeAnswers P → ProbeSteps P → Type 0

@@ -15,13 +15,13 @@ struct Deaf {
 impl Probe for Deaf {
     ghost use Rattle.std.specs.Prelude.{◌-◌, ◌==◌, ◌||◌, ℕ, if◌then◌else◌};
     ghost use Rattle.ep_base.specs.Air.Heard.{Silence};
-    ghost use Rattle.ep_claim.specs.Lanes.Probing.{told};
+    ghost use Rattle.ep_claim.specs.Lanes.Probing.{probe_told};
 
     ghost State = { ℕ };
 
     ghost state = { λ d. d.left };
 
-    ghost steps = { told (record { hear = λ p lane ask heard. (p - 1, if (p == 8) || (p == 6) || (p == 4) then Silence else heard) }) };
+    ghost steps = { probe_told (record { hear = λ p lane ask heard. (p - 1, if (p == 8) || (p == 6) || (p == 4) then Silence else heard) }) };
 
     fn hear(&mut self, _lane: u8, _ask: &Ask, heard: &Heard) -> Heard {
         let left = self.left;

@@ -22,23 +22,23 @@ Wishes AtBreach wish = (command : List ℕ) × (wish ≡ Commands command)
 Wishes AtDevice wish = wish ≢ Nothing
 
 -- Nothing more was heard here.
-abbrev pub Stops : {T : Type 0} → T → List Result → HearEnd → T → Type 0
-Stops t heard ending u = (heard ≡ []) × (ending ≡ Whole) × (u ≡ t)
+abbrev pub HearsNothing : {T : Type 0} → T → List Result → HearEnd → T → Type 0
+HearsNothing t heard ending u = (heard ≡ []) × (ending ≡ Whole) × (u ≡ t)
 
 module _ {T : Type 0} (link : TransportSteps T) where
   -- As Hears, but it may stop at any wish: the results that the transport gave up to some moment, and its state then.
   abbrev pub HearsPart : Talk → List RoundEnd → T → List Result → HearEnd → T → Type 0
-  HearsPart (Over e) more t heard ending u = Stops t heard ending u
+  HearsPart (Over e) more t heard ending u = HearsNothing t heard ending u
   HearsPart (Say x next) more t heard ending u = HearsPart next more t heard ending u
   HearsPart (Poll next) (x ∷ more) t heard ending u =
-      Stops t heard ending u ⊎ ((rest : List Result) × (heard ≡ Round x ∷ rest) × HearsPart (next x) more t rest ending u)
+      HearsNothing t heard ending u ⊎ ((rest : List Result) × (heard ≡ Round x ∷ rest) × HearsPart (next x) more t rest ending u)
   HearsPart (Poll next) [] t heard ending u =
-      Stops t heard ending u
+      HearsNothing t heard ending u
       ⊎ ((p : PresentResult) × (v : T) × link.presents t p v × HearsPresent link (λ x more. HearsPart (next x) more) p v heard ending u)
   HearsPart (Command c next) more t heard ending u =
-      Stops t heard ending u ⊎ ((r : Reply) × (v : T) × link.transacts t c r v × HearsReply link (λ a. HearsPart (next a) more) r v heard ending u)
+      HearsNothing t heard ending u ⊎ ((r : Reply) × (v : T) × link.transacts t c r v × HearsReply link (λ a. HearsPart (next a) more) r v heard ending u)
   HearsPart (Close next) more t heard ending u =
-      Stops t heard ending u ⊎ ((well : Bool) × (v : T) × link.closes t well v × HearsClose link (HearsPart next more) well v heard ending u)
+      HearsNothing t heard ending u ⊎ ((well : Bool) × (v : T) × link.closes t well v × HearsClose link (HearsPart next more) well v heard ending u)
 
 -- The run ended: all events for what was heard were taken, `last` as the last of them.
 pub record RanWhole {T E : Type 0} (link : TransportSteps T) (events : EventSteps E) (talk : Talk) (more : List RoundEnd) (t : T) (e : E) (left : RunLeft T E) (last : EventData) : Type 0 where

@@ -60,5 +60,5 @@ module _ {E : Type 0} (events : EventSteps E) (said : List EventData) (commands 
 abbrev pub rules_of : Direct → Rules Image
 rules_of d = image_rules (λ card. d.image.number)
 
-abbrev pub ends_of : ℕ → Direct → List RoundEnd
-ends_of ends d = replicate ends (Found d.card)
+abbrev pub found_ends : ℕ → Direct → List RoundEnd
+found_ends ends d = replicate ends (Found d.card)

@@ -39,11 +39,11 @@ more_ends Gone = []
 
 module _ {T E : Type 0} (link : TransportSteps T) (events : EventSteps E) where
   -- The event is taken and the run goes on, or it isn't taken whole.
-  abbrev pub Takes : EventData → T → E → RunLeft T E → (E → Type 0) → Type 0
-  Takes x t e left Then = ((l : E) × events.cut e x l × Leaves left EventsFailed t l) ⊎ Then (events.take e x)
+  abbrev pub TakesEvent : EventData → T → E → RunLeft T E → (E → Type 0) → Type 0
+  TakesEvent x t e left Then = ((l : E) × events.cut e x l × Leaves left EventsFailed t l) ⊎ Then (events.take e x)
 
   abbrev pub Ends : EventData → T → E → RunLeft T E → Type 0
-  Ends last t e left = Takes last t e left (Leaves left (Ended last) t)
+  Ends last t e left = TakesEvent last t e left (Leaves left (Ended last) t)
 
   abbrev pub AfterPresent : (RoundEnd → List RoundEnd → T → E → RunLeft T E → Type 0) → PresentResult → T → E → RunLeft T E → Type 0
   AfterPresent Then (Here collided card) t e left = Then (first_end (Here collided card)) (more_ends (Here collided card)) t e left
@@ -51,7 +51,7 @@ module _ {T E : Type 0} (link : TransportSteps T) (events : EventSteps E) where
   AfterPresent Then Gone t e left = Leaves left DeviceFailed t e
 
   abbrev pub AfterReply : List ℕ → (List ℕ → T → E → RunLeft T E → Type 0) → Reply → T → E → RunLeft T E → Type 0
-  AfterReply c Then (Answered r) t e left = Takes (Apdu c r) t e left (λ f. Then r t f left)
+  AfterReply c Then (Answered r) t e left = TakesEvent (Apdu c r) t e left (λ f. Then r t f left)
   AfterReply c Then Spent t e left = Ends EndLink t e left
   AfterReply c Then Breached t e left = Ends EndBreach t e left
   AfterReply c Then Lost t e left = Leaves left DeviceFailed t e
@@ -63,7 +63,7 @@ module _ {T E : Type 0} (link : TransportSteps T) (events : EventSteps E) where
   -- Running a talk may end and leave so. A presentation answers the polls of one Start B: `more` has those of its ends that no poll took yet.
   abbrev pub Runs : Talk → List RoundEnd → T → E → RunLeft T E → Type 0
   Runs (Over ending) more t e left = Ends (End ending) t e left
-  Runs (Say x next) more t e left = Takes (Tells x) t e left (λ f. Runs next more t f left)
+  Runs (Say x next) more t e left = TakesEvent (Tells x) t e left (λ f. Runs next more t f left)
   Runs (Poll next) (x ∷ more) t e left = Runs (next x) more t e left
   Runs (Poll next) [] t e left = (p : PresentResult) × (u : T) × link.presents t p u × AfterPresent (λ x more. Runs (next x) more) p u e left
   Runs (Command c next) more t e left = (r : Reply) × (u : T) × link.transacts t c r u × AfterReply c (λ a. Runs (next a) more) r u e left
