@@ -96,6 +96,9 @@ pub const LANES: usize = 8;
 /// The most turns of a turn list.
 pub const TURNS: usize = 4_096;
 
+/// The most lines of a document's trace.
+pub const TRACE_LINES: usize = 65_536;
+
 /// The bytes of a session's arena.
 pub const ARENA_BYTES: usize = 1_024;
 

@@ -3,7 +3,7 @@ use Rattle.std.proofs.Common.{◌≡◌, ℕ, ◌≤◌, List, [], length, codes
 use Rattle.std.specs.Prelude.{⊤}
 use Rattle.std.specs.Option.{ForSome}
 use Rattle.std.proofs.lemmas.List.Elements.{All-nil}
-use Rattle.ep_base.specs.declared.limits.TheConstants.{LANES, TRANSACTIONS, TURNS}
+use Rattle.ep_base.specs.declared.limits.TheConstants.{LANES, TRACE_LINES, TRANSACTIONS, TURNS}
 use Rattle.toml.specs.Data.{Members}
 use Rattle.ep_claim.specs.Text.TraceLine.{TraceLine}
 use Rattle.doc_table.specs.declared.list.ElementKind.TheVariants as elements
@@ -76,12 +76,12 @@ accepted_turns lanes root turns e =
 accepted_line : Accepts line (λ _. ⊤)
 accepted_line = record { is = λ path d x e. tt }
 
--- At most 65536 trace lines.
+-- At most `TRACE_LINES` trace lines.
 abbrev IsShort : List TraceLine → Type 0
-IsShort lines = length lines ≤ 65536
+IsShort lines = length lines ≤ TRACE_LINES
 
-accepted_lines : Accepts (list_of elements.Text 0 65536 line) IsShort
-accepted_lines = record { is = λ path d xs e. ((accepted_list elements.Text 0 65536 line (λ _. ⊤) accepted_line).is path d xs e).most }
+accepted_lines : Accepts (list_of elements.Text 0 TRACE_LINES line) IsShort
+accepted_lines = record { is = λ path d xs e. ((accepted_list elements.Text 0 TRACE_LINES line (λ _. ⊤) accepted_line).is path d xs e).most }
 
 accepted_trace : (root : Place) (trace : Option (List TraceLine)) → trace_at root ≡ Ok trace → ForSome trace IsShort
 accepted_trace root trace e = accepted_optional _ IsShort (codes "trace") root trace accepted_lines e

@@ -1,7 +1,7 @@
 -- What holds of a document that is accepted (this project's profile).
 use Rattle.std.specs.Prelude.{◌≤◌, All, List, length}
 use Rattle.std.specs.Option.{ForSome}
-use Rattle.ep_base.specs.declared.limits.TheConstants.{FSDI, LANES, TRANSACTIONS}
+use Rattle.ep_base.specs.declared.limits.TheConstants.{FSDI, LANES, TRACE_LINES, TRANSACTIONS}
 use Rattle.ep_base.specs.Air.Fates.{AreFates}
 use Rattle.ep_rules.specs.EntryPoint.Configuration.{IsConfig}
 use Rattle.ep_base.specs.Cards.Lawful.{ArePlaced, AreApart, names}
@@ -29,7 +29,7 @@ pub record IsLane (lane : List Transaction) : Type 0 where
   pub lawful : All IsLawful lane
 
 -- A document: the limits of its configuration, 1 to `LANES` lanes, an FSDI of at most `FSDI`, at most 4096 turns, which are those of its lanes, and a
--- trace, where there is one, of at most 65536 lines (this project's profile).
+-- trace, where there is one, of at most `TRACE_LINES` lines (this project's profile).
 pub record IsAccepted (p : Plan) : Type 0 where
   pub config : IsConfig p.config
   pub fsdi : p.fsdi ≤ FSDI
@@ -37,4 +37,4 @@ pub record IsAccepted (p : Plan) : Type 0 where
   pub few : length p.lanes ≤ LANES
   pub lanes : All IsLane p.lanes
   pub turns : AreTurns (length p.lanes) p.turns
-  pub trace : ForSome p.trace (λ lines. length lines ≤ 65536)
+  pub trace : ForSome p.trace (λ lines. length lines ≤ TRACE_LINES)

@@ -6,6 +6,7 @@ use Rattle.ep_claim.specs.Text.TraceLine.{TraceLine, read_trace_line}
 use Rattle.doc_table.specs.Fault.{Fault}
 use Rattle.doc_table.specs.declared.list.ElementKind.TheVariants.{Text}
 use Rattle.doc_table.specs.Read.{◌>>=◌, Reader, Place, of_kind, allowed, optional, list_of}
+use Rattle.ep_base.specs.declared.limits.TheConstants.{TRACE_LINES}
 
 -- A trace line without its newline (this project's own).
 abbrev pub line : Reader TraceLine
@@ -13,6 +14,6 @@ line path d = do
   text ← of_kind path (as_str d)
   allowed path (pos (length text)) (read_trace_line text)
 
--- The exchanges of at most 65536 trace lines, or nothing where the key is absent (this project's own).
+-- The exchanges of at most `TRACE_LINES` trace lines, or nothing where the key is absent (this project's own).
 abbrev pub trace_at : Place → Result (Option (List TraceLine)) Fault
-trace_at place = optional (list_of Text 0 65536 line) (codes "trace") place
+trace_at place = optional (list_of Text 0 TRACE_LINES line) (codes "trace") place

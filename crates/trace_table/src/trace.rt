@@ -7,6 +7,7 @@ ghost use Rattle.trace_io.specs.Meaning.{traced_of};
 ghost use Rattle.trace_table.specs.Trace.{line, trace_at};
 
 use doc_table::{DocFault, DocKind, ListOf, Path, Read, Section, TableEnd};
+use ep_base::TRACE_LINES;
 use std::alloc::Global;
 use toml::Value;
 use trace_io::{TraceLine, read_trace_line};
@@ -19,7 +20,7 @@ pub fn trace_of(alloc: Global, section: &Section) -> Result<Option<Vec<TraceLine
     requires { length section.now.path.now + 13 ≤ 96 }
     ensures { GivesIfRoom (option_map (λ v. map traced_of v.items)) result (trace_at (place section.now)) }
 {
-    section.optional(alloc, "trace", &ListOf::texts(0, 65536, LineText))
+    section.optional(alloc, "trace", &ListOf::texts(0, TRACE_LINES, LineText))
 }
 
 // Reads a trace line.
