@@ -1,9 +1,10 @@
 -- The Type A cards of a document's transactions (ISO/IEC 14443-3; that presence isn't asked: this project's own).
-use Rattle.std.specs.Prelude.{◌≡◌, ℕ, ◌≤◌, All, List, [], ◌∷◌, ◌++◌, map, length}
+use Rattle.std.specs.Prelude.{◌≡◌, ℕ, ◌≤◌, ◌<◌, All, List, [], ◌∷◌, ◌++◌, map, length, Option, Some, None}
 use Rattle.ep_base.specs.declared.limits.TheConstants.{CARDS}
 use Rattle.ep_base.specs.Cards.Activation.{bit}
 use Rattle.ep_base.specs.Cards.Field.{Outside, OfA, OfB, Placed}
 use Rattle.ep_base.specs.Cards.Lawful.{IsUid}
+use Rattle.ep_base.specs.Cards.TypeA.{APlan}
 use Rattle.card_table.specs.Cards.{Card}
 use Rattle.inventory.specs.Tags.{Tag, AreApart}
 use Rattle.scenario.specs.Plan.{Transaction, Plan}
@@ -43,3 +44,16 @@ pub record CanBeListed (w : Work) : Type 0 where
   pub few : length w.field.cards ≤ CARDS
   pub complete : All IsComplete (work_tags w)
   pub apart : AreApart (work_tags w)
+
+-- Cards, and one more, where there is one of Type A (this project's own).
+abbrev pub with_plan : List Tag → Option APlan → List Tag
+with_plan tags None = tags
+with_plan tags (Some plan) = tags ++ record { uid = plan.uid; sak = plan.sak } ∷ []
+
+-- Bytes (this project's own).
+abbrev pub AreBytes : List ℕ → Type 0
+AreBytes bytes = All (λ b. b < 256) bytes
+
+-- Cards whose UIDs are bytes (this project's own).
+abbrev pub HaveBytes : List Tag → Type 0
+HaveBytes tags = All (λ (t : Tag). AreBytes t.uid) tags

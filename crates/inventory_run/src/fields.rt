@@ -25,9 +25,9 @@ pub(crate) fn fields_of(
     let mut fields = Vec::new(alloc);
     for lane in lanes {
         let of_lane = lane_fields(alloc, lane)?;
-        if fields.push(of_lane).is_err() {
+        let Ok(()) = fields.push(of_lane) else {
             return Err(NoMemory);
-        }
+        };
     }
     Ok(fields)
 }
@@ -41,9 +41,9 @@ fn lane_fields(alloc: Global, jobs: Vec<Job>) -> Result<Vec<CleanField>, NoMemor
     let mut fields = Vec::new(alloc);
     for job in jobs {
         let field = clean_field(alloc, &job)?;
-        if fields.push(field).is_err() {
+        let Ok(()) = fields.push(field) else {
             return Err(NoMemory);
-        }
+        };
     }
     Ok(fields)
 }

@@ -1,9 +1,9 @@
 //! The Type A cards of a field.
-ghost use Rattle.std.specs.Prelude.{◌≡◌, ◌≤◌, ◌<◌, All, length, IfOk, OnOk, option_map};
+ghost use Rattle.std.specs.Prelude.{◌≡◌, ◌≤◌, length, IfOk, OnOk};
 ghost use Rattle.ep_base.specs.declared.limits.TheConstants.{CARDS};
 ghost use Rattle.rf_field.specs.Fields.{field_of};
-ghost use Rattle.inventory_run.specs.Tagged.{placed_tags};
-ghost use Rattle.inventory_run.proofs.Taking.{AreBytes, HaveBytes, with_plan};
+ghost use Rattle.rf_field.specs.Plans.{type_a_plan};
+ghost use Rattle.inventory_run.specs.Tagged.{placed_tags, with_plan, AreBytes, HaveBytes};
 
 use ep_base::{Buf, CARDS, NoMemory};
 use inventory::Tag;
@@ -22,17 +22,17 @@ pub(crate) fn tags_of(alloc: Global, field: &Field) -> Result<Vec<Tag>, NoMemory
     let mut number: u8 = 0;
     while usize::from(number) < CARDS {
         number += 1;
-        push_card(field.type_a(number), &mut tags)?;
+        push_card(field, number, &mut tags)?;
     }
     Ok(tags)
 }
 
-// Adds a card, where there is one.
-fn push_card(plan: Option<&APlan>, tags: &mut Vec<Tag>) -> Result<(), NoMemory>
-    ensures tags { OnOk result (tags.new.items ≡ with_plan tags.old.items (option_map (λ p. p.now) plan)) }
+// Adds the card with this number, where there is one of Type A.
+fn push_card(field: &Field, number: u8, tags: &mut Vec<Tag>) -> Result<(), NoMemory>
+    ensures tags { OnOk result (tags.new.items ≡ with_plan tags.old.items (type_a_plan number (field_of field.now).cards)) }
     ensures bytes { OnOk result (HaveBytes tags.old.items → HaveBytes tags.new.items) }
 {
-    let Some(plan) = plan else {
+    let Some(plan) = field.type_a(number) else {
         return Ok(());
     };
     if tags.push(tag_of(plan)).is_err() {

@@ -7,7 +7,7 @@ ghost use Rattle.ep_base.specs.Streams.Causes.{HasCause};
 ghost use Rattle.ep_base.specs.Streams.Io.{AppendsPrefix};
 ghost use Rattle.inventory.specs.Tags.{in_order};
 ghost use Rattle.inventory_run.specs.Listing.{held, IsField};
-ghost use Rattle.inventory_run.specs.Text.{tag_lines, inventory_text, lane_from, lanes_text};
+ghost use Rattle.inventory_run.specs.Text.{inventory_line, tag_lines, inventory_text, lane_from, lanes_text};
 
 use crate::text::{inventory_line, tag_line};
 use arrayvec::ArrayVec;
@@ -40,11 +40,7 @@ pub(crate) fn write_lanes<K: Sink>(
 }
 
 // Writes the inventories of a lane, whose transactions are numbered from 1.
-fn write_lane<K: Sink>(
-    lane: u8,
-    fields: Vec<CleanField>,
-    output: &mut K,
-) -> Result<(), SinkFailed>
+fn write_lane<K: Sink>(lane: u8, fields: Vec<CleanField>, output: &mut K) -> Result<(), SinkFailed>
     requires short { length fields.items ≤ TRANSACTIONS }
     requires each { All IsField fields.items }
     ensures ok { OnOk result (Appends (K.written output.old) (K.written output.new) (lane_from lane 1 (map held fields.items))) }
@@ -76,12 +72,21 @@ fn write_inventory<K: Sink>(
 {
     let mut found = ArrayVec::new();
     find_all(field, &mut found);
-    let mut line = Line::new();
-    inventory_line(lane, txn, found.len() as u8, &mut line);
-    match push_all(output, line.as_str().as_bytes()) {
+    match write_count(lane, txn, found.len() as u8, output) {
         Ok(()) => write_tags(found.as_slice(), output),
         Err(_) => Err(SinkFailed),
     }
+}
+
+// Writes the line of a transaction's inventory.
+fn write_count<K: Sink>(lane: u8, txn: u8, count: u8, output: &mut K) -> Result<(), SinkFailed>
+    ensures ok { OnOk result (Appends (K.written output.old) (K.written output.new) (inventory_line lane txn count)) }
+    ensures err { OnErr result (AppendsPrefix (K.written output.old) (K.written output.new) (inventory_line lane txn count)) }
+    ensures cause { HasCause (K.faults output.old) (K.faults output.new) (IsErr result) }
+{
+    let mut line = Line::new();
+    inventory_line(lane, txn, count, &mut line);
+    push_all(output, line.as_str().as_bytes())
 }
 
 // Finds all cards of a field.
@@ -89,6 +94,8 @@ fn find_all(field: CleanField, found: &mut ArrayVec<Tag, 16>)
     requires field { IsField field }
     requires none { array_vec_len found.old ≡ 0 }
     ensures found { found.new.items ≡ in_order (held field) }
+    ensures count { length found.new.items ≡ length (held field) }
+    ensures few { length found.new.items ≤ 16 }
 {
     let mut field = field;
     let _exchanges = inventory(&mut field, found).unwrap();
