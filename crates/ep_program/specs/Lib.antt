@@ -1,6 +1,7 @@
 pub mod Bounded
 pub mod Headline
 pub mod Input
+pub mod Inventory
 pub mod Load
 pub mod Replay
 pub mod Serve

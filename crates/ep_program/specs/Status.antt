@@ -1,6 +1,6 @@
 -- The numbers and the texts of the ways in which the program ends (this project's own).
-use Rattle.std.specs.Prelude.{ℕ, List, []}
-use Rattle.ep_claim.specs.Text.FaultText.{read_fault, write_fault, no_memory, usage, too_long, not_toml}
+use Rattle.std.specs.Prelude.{codes, ℕ, List, []}
+use Rattle.ep_claim.specs.Text.FaultText.{read_fault, write_fault, no_memory, too_long, not_toml}
 use Rattle.report_text.specs.FaultWords.{document_fault}
 use Rattle.trace_io.specs.MismatchText.{mismatch_text}
 use Rattle.ep_program.specs.declared.status.Status.{Status}
@@ -17,6 +17,10 @@ number_of TooLong = 5
 number_of NotToml = 6
 number_of (BadDocument f) = 7
 number_of (Mismatch m) = 8
+
+-- The forms of words, after words that are in none (this project's own).
+abbrev pub usage : List ℕ
+usage = codes "ep_program: usage: run / run trace / replay / load SEED COUNT / inventory"
 
 -- The text of a status; Done has none (this project's own).
 abbrev pub fault_text_of : Status → List ℕ

@@ -15,6 +15,8 @@ pub enum Form {
     RunTrace,
     /// `replay`: the report of a document against its trace.
     Replay,
+    /// `inventory`: every Type A card of each transaction of a document.
+    Inventory,
     /// `load SEED COUNT`: the summary line of a generated load.
     Load {
         /// The seed, of at most nine decimal digits.
@@ -35,6 +37,8 @@ pub fn form_of(words: &[String]) -> Option<Form>
                 Some(Form::Run)
             } else if run.as_str() == "replay" {
                 Some(Form::Replay)
+            } else if run.as_str() == "inventory" {
+                Some(Form::Inventory)
             } else {
                 None
             }

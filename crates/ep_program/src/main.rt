@@ -1,9 +1,10 @@
-//! The program: it reads a document, runs the transactions of its lanes by turns and writes their report; or it runs a
-//! generated load and writes its summary line.
+//! The program: it reads a document, runs the transactions of its lanes by turns and writes their report, or lists their
+//! Type A cards; or it runs a generated load and writes its summary line.
 #![tactic(auto)]
 
 mod form;
 mod input;
+mod inventory;
 mod load;
 mod replay;
 mod serve;

@@ -10,6 +10,7 @@ ghost use Rattle.ep_program.specs.Words.{form_of, reads_input};
 
 use crate::form::{Form, form_of};
 use crate::input::read;
+use crate::inventory::inventory_document;
 use crate::load::load;
 use crate::replay::replay_document;
 use crate::status::Status;
@@ -99,6 +100,7 @@ pub fn serve<S: Source, K: Sink, P: Probe>(
         Some(Form::Run) => report(alloc, false, input, output, probe),
         Some(Form::RunTrace) => report(alloc, true, input, output, probe),
         Some(Form::Replay) => replay_document(alloc, input, output),
+        Some(Form::Inventory) => inventory_document(alloc, input, output),
         Some(Form::Load { seed, count }) => load(alloc, seed, count, output),
         None => Status::Usage,
     }

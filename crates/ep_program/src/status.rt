@@ -60,7 +60,9 @@ pub fn fault_text(status: &Status, out: &mut Line)
         Status::WriteFault => out.push_str("ep_program: write fault"),
         Status::NoMemory => out.push_str("ep_program: no memory"),
         Status::Usage => {
-            out.push_str("ep_program: usage: run / run trace / replay / load SEED COUNT")
+            out.push_str(
+                "ep_program: usage: run / run trace / replay / load SEED COUNT / inventory",
+            )
         }
         Status::TooLong => out.push_str("ep_program: input longer than 1048576 bytes"),
         Status::NotToml => out.push_str("ep_program: not a TOML document"),

@@ -2,7 +2,6 @@ pub mod Agreeing
 pub mod Beginnings
 pub mod Ending
 pub mod Finding
-pub mod HexText
 pub mod Leading
 pub mod Making
 pub mod Members

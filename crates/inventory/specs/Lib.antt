@@ -6,7 +6,6 @@ pub mod Hearing
 pub mod Prefixes
 pub mod Steps
 pub mod Tags
-pub mod Text
 pub mod Told
 pub mod Turns
 pub mod Walks

@@ -8,13 +8,11 @@ mod clean;
 mod field;
 mod listing;
 mod tag;
-mod text;
 mod walk;
 
 pub use clean::CleanField;
-pub use ep_base::{Buf, Line, NoMemory};
+pub use ep_base::{Buf, NoMemory};
 pub use field::{BitField, BitHeard, Prefix};
 pub use listing::{InventoryEnd, inventory};
 pub use rf_frame::RfFailed;
 pub use tag::Tag;
-pub use text::{inventory_line, tag_line};

@@ -1,0 +1,5 @@
+pub mod Accepted
+pub mod Appending
+pub mod Finding
+pub mod Leaving
+pub mod Taking
