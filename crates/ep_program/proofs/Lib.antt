@@ -1,5 +1,5 @@
 pub mod Given
-pub mod Listing
+pub mod Inventorying
 pub mod Loading
 pub mod Numbers
 pub mod Promising

@@ -4,7 +4,7 @@
 
 mod form;
 mod input;
-mod inventory;
+mod listing;
 mod load;
 mod replay;
 mod serve;

@@ -10,7 +10,7 @@ ghost use Rattle.ep_program.specs.Words.{form_of, reads_input};
 
 use crate::form::{Form, form_of};
 use crate::input::read;
-use crate::inventory::inventory_document;
+use crate::listing::inventory_document;
 use crate::load::load;
 use crate::replay::replay_document;
 use crate::status::Status;
@@ -23,8 +23,8 @@ use std::alloc::Global;
 /// Does what the words say: `run` reads a document from the input, runs the transactions of its lanes over the radio, each
 /// with the field of its own cards, and writes their report; `run trace` writes each exchange with the radio as well, before
 /// the lines of the events that it adds; `replay` runs the lanes against the document's trace in place of their cards, and
-/// writes their events; `load` with a seed and a count runs the transactions of a generated load and writes their summary
-/// line. All memory is taken before the first line is written.
+/// writes their events; `inventory` lists the Type A cards of its transactions; `load` with a seed and a count runs the
+/// transactions of a generated load and writes their summary line. All memory is taken before the first line is written.
 ///
 /// # Reports
 ///
@@ -64,6 +64,12 @@ use std::alloc::Global;
 /// its line and each line its exchange, and `Mismatch` with the first place where that isn't so, of which what is wanted and
 /// what was sent differ; both with all that was written until then, and `WriteFault` with a first part of it. The probe isn't
 /// asked.
+///
+/// # Inventories
+///
+/// Lanes and transactions come in rising order. Of each transaction every Type A card is listed once, whether it is present
+/// or not, by its UID and SAK, in rising order of the bits of its levels' values. `Done` comes with the whole text of the
+/// document, and `WriteFault` with a first part of it; no transaction is run, and the probe isn't asked.
 ///
 /// # Loads
 ///

@@ -5,6 +5,7 @@ mod cards;
 mod cases;
 mod cuts;
 mod faults;
+mod inventories;
 mod kernels;
 mod limits;
 mod probes;

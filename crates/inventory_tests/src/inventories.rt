@@ -5,10 +5,8 @@ ghost use Rattle.ep_base.specs.Streams.Causes.{HasCause};
 ghost use Rattle.inventory.specs.Tags.{IsTag, AreTags};
 
 use arrayvec::ArrayVec;
-use ep_base::{Buf, Line, bit};
-use inventory::{
-    BitField, BitHeard, CleanField, InventoryEnd, Prefix, Tag, inventory, inventory_line, tag_line,
-};
+use ep_base::{Buf, bit};
+use inventory::{BitField, BitHeard, CleanField, InventoryEnd, Prefix, Tag, inventory};
 use rf_frame::RfFailed;
 use std::alloc::Global;
 use std::test::Fail;
@@ -348,16 +346,5 @@ fn crowds(rt: HostRuntime) -> Result<(), Fail> {
             assert!(rt; card.uid.as_slice() == [*first, 0, 0, 0].as_slice());
         }
     }
-    Ok(())
-}
-
-#[test]
-fn lines(rt: HostRuntime) -> Result<(), Fail> {
-    let mut line = Line::new();
-    inventory_line(1, 1, 2, &mut line);
-    assert!(rt; line.as_str() == "inventory 1.1 tags=2\n");
-    let mut line = Line::new();
-    tag_line(&tag(b"\x04\x11\x22\x77\x88\x99\xaa")?, &mut line);
-    assert!(rt; line.as_str() == "tag 041122778899aa sak=20\n");
     Ok(())
 }

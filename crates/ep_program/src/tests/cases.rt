@@ -14,7 +14,10 @@
 //! In a text `\n` is a newline, and `<NAME>` is the part with this name.
 
 use super::purchase::{PARTS, PURCHASE};
-use super::{End, cards, check, kernels, limits, radio, refusals, replays, run, selection, turns};
+use super::{
+    End, cards, check, inventories, kernels, limits, radio, refusals, replays, run, selection,
+    turns,
+};
 use std::test::Fail;
 
 /// A run of a document, and what it leaves.
@@ -133,6 +136,7 @@ fn runs_of_documents(rt: HostRuntime) -> Result<(), Fail> {
     check_runs(&rt, turns::TWO_LANES)?;
     check_runs(&rt, turns::CASES)?;
     check_runs(&rt, cards::CASES)?;
+    check_runs(&rt, inventories::CASES)?;
     check_runs(&rt, kernels::CASES)?;
     check_runs(&rt, limits::CASES)?;
     check_runs(&rt, radio::CASES)?;

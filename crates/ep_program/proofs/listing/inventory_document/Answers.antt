@@ -1,6 +1,6 @@
 use Rattle.ep_program.proofs.Given.{taken_without}
-use Rattle.ep_program.proofs.Listing.{opened_listable, listed, list_not_long}
-use Rattle.ep_program.proofs.inventory.inventory_document.Goals as goal
+use Rattle.ep_program.proofs.Inventorying.{opened_listable, listed, list_not_long}
+use Rattle.ep_program.proofs.listing.inventory_document.Goals as goal
 
 pub list-requires : goal.list-requires
 list-requires g c = record { listable = opened_listable _ _ c.in-Ok.ensures.ok }

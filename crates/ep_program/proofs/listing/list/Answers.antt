@@ -6,9 +6,9 @@ use Rattle.inventory_run.specs.Tagged.{CanBeListed, work_tags}
 use Rattle.inventory_run.specs.Text.{lanes_text}
 use Rattle.scenario.specs.Scenario.{Work, Scenario}
 use Rattle.ep_program.specs.Inventory.{scenario_text}
-use Rattle.ep_program.proofs.Listing.{lanes_text_is}
+use Rattle.ep_program.proofs.Inventorying.{lanes_text_is}
 use Rattle.ep_program.proofs.Ready.{all_map}
-use Rattle.ep_program.proofs.inventory.list.Goals as goal
+use Rattle.ep_program.proofs.listing.list.Goals as goal
 
 pub inventory_lanes-requires-clause-short : goal.inventory_lanes-requires-clause-short
 inventory_lanes-requires-clause-short g c =
