@@ -27,14 +27,14 @@ pub trait Probe {
 pub struct Open;
 
 impl Probe for Open {
-    ghost use Rattle.ep_claim.specs.Lanes.Probing.{told};
+    ghost use Rattle.ep_claim.specs.Lanes.Probing.{probe_told};
     ghost use Rattle.ep_claim.specs.Lanes.WholeRun.{open_probe};
 
     ghost State = { Unit {0} };
 
     ghost state = { λ _. tt };
 
-    ghost steps = { told open_probe };
+    ghost steps = { probe_told open_probe };
 
     /// Gives on what the medium gave.
     fn hear(&mut self, _lane: u8, _ask: &Ask, heard: &Heard) -> Heard {
