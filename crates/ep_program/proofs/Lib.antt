@@ -1,5 +1,6 @@
 pub mod Given
 pub mod Inventorying
+pub mod Judging
 pub mod Loading
 pub mod Numbers
 pub mod Promising

@@ -1,4 +1,5 @@
 pub mod Bounded
+pub mod Check
 pub mod Headline
 pub mod Input
 pub mod Inventory

@@ -10,6 +10,7 @@ use Rattle.scenario.specs.Jobs.{jobs_in}
 use Rattle.scenario.specs.Plan.{Plan}
 use Rattle.scenario.specs.Scenario.{Scenario, scenario_of}
 use Rattle.ep_program.specs.Bounded.{IsBoundedRun, KeepsRecordsFree}
+use Rattle.ep_program.specs.Check.{Checks}
 use Rattle.ep_program.specs.Input.{Gives, Refuses}
 use Rattle.ep_program.specs.Inventory.{Inventories}
 use Rattle.ep_program.specs.Load.{Loads}
@@ -18,7 +19,7 @@ use Rattle.ep_program.specs.Replay.{Replays}
 use Rattle.ep_program.specs.declared.status.Status.{Status}
 use Rattle.ep_program.specs.declared.status.Status.TheVariants.{Done, ReadFault, WriteFault, NoMemory, Usage, TooLong, NotToml, BadDocument, Mismatch}
 use Rattle.ep_program.specs.declared.form.Form.{Form}
-use Rattle.ep_program.specs.declared.form.Form.TheVariants.{Run, RunTrace, Replay, Inventory, Load}
+use Rattle.ep_program.specs.declared.form.Form.TheVariants.{Run, RunTrace, Replay, Check, Inventory, Load}
 
 -- The bytes written, where they are told, and the state of the probe (this project's own).
 pub record Surroundings (P : Type 0) : Type 0 where
@@ -62,13 +63,14 @@ Reports answers traced input before after NotToml = Refuses input NotToml × Sta
 Reports answers traced input before after (BadDocument f) = Refuses input (BadDocument f) × Stays before after
 Reports answers traced input before after (Mismatch m) = ⊥
 
--- What the words ask for: a document's report, without the trace or with it, its report against its trace, the inventory of its cards, or the summary line
--- of a load; the last three leave the probe as it was. `Usage` comes exactly for words in no form, with nothing written and the probe as it was (this project's own).
+-- What the words ask for: a document's report, without the trace or with it, its report against its trace, a check of its trace, the inventory of its
+-- cards, or the summary line of a load; the last four leave the probe as it was. `Usage` comes exactly for words in no form, with nothing written and the probe as it was (this project's own).
 abbrev pub Serves : {P : Type 0} → ProbeAnswers P → Option Form → Option (List ℕ) → (before after : Surroundings P) → Status → Type 0
 Serves answers None input before after status = (status ≡ Usage) × Stays before after
 Serves answers (Some Run) input before after status = Reports answers false input before after status
 Serves answers (Some RunTrace) input before after status = Reports answers true input before after status
 Serves answers (Some Replay) input before after status = Replays input before.written after.written status × (after.probe ≡ before.probe)
+Serves answers (Some Check) input before after status = Checks input before.written after.written status × (after.probe ≡ before.probe)
 Serves answers (Some Inventory) input before after status = Inventories input before.written after.written status × (after.probe ≡ before.probe)
 Serves answers (Some (Load seed count)) input before after status = Loads seed count before.written after.written status × (after.probe ≡ before.probe)
 

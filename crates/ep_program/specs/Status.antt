@@ -20,7 +20,7 @@ number_of (Mismatch m) = 8
 
 -- The forms of words, after words that are in none (this project's own).
 abbrev pub usage : List ℕ
-usage = codes "ep_program: usage: run / run trace / replay / load SEED COUNT / inventory"
+usage = codes "ep_program: usage: run / run trace / replay / load SEED COUNT / check / inventory"
 
 -- The text of a status; Done has none (this project's own).
 abbrev pub fault_text_of : Status → List ℕ

@@ -6,7 +6,7 @@ use Rattle.std.specs.declared.alloc.Global.{Global}
 use Rattle.ep_base.specs.Cards.Apdu.{same_bytes}
 use Rattle.doc_table.specs.Read.{is_within}
 use Rattle.ep_program.specs.declared.form.Form.{Form}
-use Rattle.ep_program.specs.declared.form.Form.TheVariants.{Run, RunTrace, Replay, Inventory, Load}
+use Rattle.ep_program.specs.declared.form.Form.TheVariants.{Run, RunTrace, Replay, Check, Inventory, Load}
 use Rattle.ep_base.specs.Streams.Words.{◌>>=◌}
 
 -- Whether a word is this one (this project's own).
@@ -30,13 +30,14 @@ load_of seed count = do
   n ← count_spelled count
   Some (Load s n)
 
--- The form of words: run, run trace, replay, inventory, or load with a seed and a count (this project's own).
+-- The form of words: run, run trace, replay, check, inventory, or load with a seed and a count (this project's own).
 abbrev pub form_of : List (String Global) → Option Form
 form_of [] = None
 form_of (w ∷ []) =
     if is_word w (codes "run") then Some Run
     else (if is_word w (codes "replay") then Some Replay
-    else (if is_word w (codes "inventory") then Some Inventory else None))
+    else (if is_word w (codes "check") then Some Check
+    else (if is_word w (codes "inventory") then Some Inventory else None)))
 form_of (w ∷ v ∷ []) = if is_word w (codes "run") && is_word v (codes "trace") then Some RunTrace else None
 form_of (w ∷ v ∷ u ∷ []) = if is_word w (codes "load") then load_of (string_bytes v) (string_bytes u) else None
 form_of (w ∷ v ∷ u ∷ t ∷ ws) = None
@@ -46,6 +47,7 @@ abbrev pub IsAllowed : Form → Type 0
 IsAllowed Run = ⊤
 IsAllowed RunTrace = ⊤
 IsAllowed Replay = ⊤
+IsAllowed Check = ⊤
 IsAllowed Inventory = ⊤
 IsAllowed (Load seed count) = (1 ≤ count) × (count ≤ 400)
 
@@ -55,5 +57,6 @@ reads_input None = false
 reads_input (Some Run) = true
 reads_input (Some RunTrace) = true
 reads_input (Some Replay) = true
+reads_input (Some Check) = true
 reads_input (Some Inventory) = true
 reads_input (Some (Load seed count)) = false

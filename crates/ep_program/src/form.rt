@@ -15,6 +15,8 @@ pub enum Form {
     RunTrace,
     /// `replay`: the report of a document against its trace.
     Replay,
+    /// `check`: whether the lines of a document's trace are allowed.
+    Check,
     /// `inventory`: every Type A card of each transaction of a document.
     Inventory,
     /// `load SEED COUNT`: the summary line of a generated load.
@@ -37,6 +39,8 @@ pub fn form_of(words: &[String]) -> Option<Form>
                 Some(Form::Run)
             } else if run.as_str() == "replay" {
                 Some(Form::Replay)
+            } else if run.as_str() == "check" {
+                Some(Form::Check)
             } else if run.as_str() == "inventory" {
                 Some(Form::Inventory)
             } else {

@@ -1,7 +1,8 @@
-//! The program: it reads a document, runs the transactions of its lanes by turns and writes their report, or lists their
-//! Type A cards; or it runs a generated load and writes its summary line.
+//! The program: it reads a document, runs the transactions of its lanes by turns and writes their report, checks a trace,
+//! or lists their Type A cards; or it runs a generated load and writes its summary line.
 #![tactic(auto)]
 
+mod checking;
 mod form;
 mod input;
 mod listing;

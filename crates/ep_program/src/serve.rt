@@ -8,6 +8,7 @@ ghost use Rattle.ep_program.specs.Input.{IsTooLong};
 ghost use Rattle.ep_program.specs.Serve.{Reports, Runs, Serves};
 ghost use Rattle.ep_program.specs.Words.{form_of, reads_input};
 
+use crate::checking::check_document;
 use crate::form::{Form, form_of};
 use crate::input::read;
 use crate::listing::inventory_document;
@@ -23,7 +24,7 @@ use std::alloc::Global;
 /// Does what the words say: `run` reads a document from the input, runs the transactions of its lanes over the radio, each
 /// with the field of its own cards, and writes their report; `run trace` writes each exchange with the radio as well, before
 /// the lines of the events that it adds; `replay` runs the lanes against the document's trace in place of their cards, and
-/// writes their events; `inventory` lists the Type A cards of its transactions; `load` with a seed and a count runs the
+/// writes their events; `check` says whether the lines of the document's trace are allowed; `inventory` lists the Type A cards of its transactions; `load` with a seed and a count runs the
 /// transactions of a generated load and writes their summary line. All memory is taken before the first line is written.
 ///
 /// # Reports
@@ -65,6 +66,13 @@ use std::alloc::Global;
 /// what was sent differ; both with all that was written until then, and `WriteFault` with a first part of it. The probe isn't
 /// asked.
 ///
+/// # Checks
+///
+/// The lines of each lane are allowed where some lines after them complete them to whole poll rounds and links with cards, as
+/// the reader's rules give them for some commands. `Done` comes with one line: that all lines are allowed, and how many
+/// they are, or else the first bad one's place and lane, and the first rule that it breaks; `WriteFault` with a first part of
+/// it. No transaction is run, and the probe isn't asked.
+///
 /// # Inventories
 ///
 /// Lanes and transactions come in rising order. Of each transaction every Type A card is listed once, whether it is present
@@ -82,7 +90,7 @@ use std::alloc::Global;
 /// Each status has its reason: `Usage` the words, `BadDocument` the document's first fault, `NotToml` the input. `TooLong`
 /// comes exactly where more than 1,048,576 bytes were given, and every other answer to a document only where not more were.
 /// `ReadFault` and `WriteFault` come only where a count of faults rose, and `NoMemory` may come for every document and every
-/// load. A replay without a trace is a `BadDocument`, after all other faults. But for `Done`, `WriteFault` and `Mismatch`
+/// load. A replay or a check without a trace is a `BadDocument`, after all other faults. But for `Done`, `WriteFault` and `Mismatch`
 /// nothing is written, and the probe is as it was. A load answers `Done`, `WriteFault` or `NoMemory` alone. With
 /// `Usage` the input is as before too.
 pub fn serve<S: Source, K: Sink, P: Probe>(
@@ -106,6 +114,7 @@ pub fn serve<S: Source, K: Sink, P: Probe>(
         Some(Form::Run) => report(alloc, false, input, output, probe),
         Some(Form::RunTrace) => report(alloc, true, input, output, probe),
         Some(Form::Replay) => replay_document(alloc, input, output),
+        Some(Form::Check) => check_document(alloc, input, output),
         Some(Form::Inventory) => inventory_document(alloc, input, output),
         Some(Form::Load { seed, count }) => load(alloc, seed, count, output),
         None => Status::Usage,

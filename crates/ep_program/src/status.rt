@@ -61,7 +61,7 @@ pub fn fault_text(status: &Status, out: &mut Line)
         Status::NoMemory => out.push_str("ep_program: no memory"),
         Status::Usage => {
             out.push_str(
-                "ep_program: usage: run / run trace / replay / load SEED COUNT / inventory",
+                "ep_program: usage: run / run trace / replay / load SEED COUNT / check / inventory",
             )
         }
         Status::TooLong => out.push_str("ep_program: input longer than 1048576 bytes"),

@@ -3,6 +3,7 @@
 
 mod cards;
 mod cases;
+mod checks;
 mod cuts;
 mod faults;
 mod inventories;

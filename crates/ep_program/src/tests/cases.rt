@@ -15,8 +15,8 @@
 
 use super::purchase::{PARTS, PURCHASE};
 use super::{
-    End, cards, check, inventories, kernels, limits, radio, refusals, replays, run, selection,
-    turns,
+    End, cards, check, checks, inventories, kernels, limits, radio, refusals, replays, run,
+    selection, turns,
 };
 use std::test::Fail;
 
@@ -136,6 +136,7 @@ fn runs_of_documents(rt: HostRuntime) -> Result<(), Fail> {
     check_runs(&rt, turns::TWO_LANES)?;
     check_runs(&rt, turns::CASES)?;
     check_runs(&rt, cards::CASES)?;
+    check_runs(&rt, checks::CASES)?;
     check_runs(&rt, inventories::CASES)?;
     check_runs(&rt, kernels::CASES)?;
     check_runs(&rt, limits::CASES)?;

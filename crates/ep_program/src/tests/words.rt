@@ -17,7 +17,7 @@ const LOADS: &str = "\
 
 /// Words that are no form. The first row has none.
 const REFUSED: &str =
-    "@@NL@@/run/fast@@NL@@/replay/fast@@NL@@/inventory/fast@@NL@@/load/1/0@@NL@@/load/1/401@@NL@@/load/1/0000000001@@NL@@/load/0000000001/1@@NL@@/load//1@@NL@@/load/1/@@NL@@/load/+1/1@@NL@@/load/1a/1@@NL@@/load/1/-1@@NL@@/load/1@@NL@@/load/1/1/1@@NL@@/Load/1/1";
+    "@@NL@@/run/fast@@NL@@/replay/fast@@NL@@/check/fast@@NL@@/inventory/fast@@NL@@/load/1/0@@NL@@/load/1/401@@NL@@/load/1/0000000001@@NL@@/load/0000000001/1@@NL@@/load//1@@NL@@/load/1/@@NL@@/load/+1/1@@NL@@/load/1a/1@@NL@@/load/1/-1@@NL@@/load/1@@NL@@/load/1/1/1@@NL@@/Load/1/1";
 
 /// Neither words that are no form nor a load ask for the input, of which the first pull fails.
 fn check_words(
@@ -38,7 +38,7 @@ fn check_words(
 
 #[test]
 fn words_without_input(rt: HostRuntime) -> Result<(), Fail> {
-    let usage = "ep_program: usage: run / run trace / replay / load SEED COUNT / inventory";
+    let usage = "ep_program: usage: run / run trace / replay / load SEED COUNT / check / inventory";
     let document = spelled(&rt, "", PURCHASE)?;
     check_words(&rt, LOADS, document.as_bytes(), 0, "", LOAD)?;
     check_words(&rt, LOADS, b"a=", 0, "", LOAD)?;
