@@ -1,5 +1,5 @@
 -- A lane as the checker watches it, line by line (this project's own).
-use Rattle.std.specs.Prelude.{ℕ, suc, ◌+◌, ◌-◌, ◌==◌, ◌&&◌, nat_le, nat_lt, Bool, true, false, not, List, [], ◌++◌, length, Option, Some, None, if◌then◌else◌}
+use Rattle.std.specs.Prelude.{ℕ, suc, ◌+◌, ◌-◌, ◌==◌, ◌&&◌, nat_le, nat_lt, Bool, true, false, List, [], ◌++◌, length, Option, Some, None, if◌then◌else◌}
 use Rattle.ep_base.specs.declared.air.Wave.{Wave}
 use Rattle.ep_base.specs.Air.Frame.{opened}
 use Rattle.ep_base.specs.Air.Heard.{Ask, Heard, Activated, RoundTurn, Goes, Ends, same_wave, wave_of_kind}
@@ -199,11 +199,15 @@ after_wtx t w = if nat_le (suc t.wtx) WAITS then Some w else None
 abbrev pub taken : Tally → Parts → Option Watch
 taken t p = if p.chained then Some (Between t.set (other t.number) (p.sent ++ p.part)) else None
 
+-- A part of a response can come once the last part of the command was sent.
+abbrev pub answered : Tally → Parts → Bool → ℕ → Option Watch
+answered t p ch len = if p.chained then None else takes_part t 0 ch len
+
 -- What follows a hearing while a command is sent.
 abbrev pub hears_sending : Tally → Parts → ReadBlock → Option Watch
 hears_sending t p Bad = Some (after_bad t (Sending (lost t) p))
 hears_sending t p Junk = None
-hears_sending t p (Intact (I k ch inf)) = if same k t.number && not p.chained then takes_part t 0 ch (length inf) else None
+hears_sending t p (Intact (I k ch inf)) = if same k t.number then answered t p ch (length inf) else None
 hears_sending t p (Intact (RAck k)) = if same k t.number then taken t p else (if is_lost t.latest then Some (Sending (again t) p) else None)
 hears_sending t p (Intact (RNak k)) = None
 hears_sending t p (Intact Deselect) = None

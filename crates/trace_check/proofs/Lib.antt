@@ -1,0 +1,4 @@
+pub mod Cuts
+pub mod Futures
+pub mod Hearing
+pub mod Sendings
