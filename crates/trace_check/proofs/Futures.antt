@@ -8,8 +8,11 @@ use Rattle.ep_base.specs.Link.ReaderEnd.{Reader, Phase, Idle, Sending, Receiving
 use Rattle.ep_base.specs.Link.LinkFrames.{LinkSetting, block_ask}
 use Rattle.trace_check.specs.Lines.{Line}
 use Rattle.trace_check.specs.Allowed.{Sends as IsAsked, IsCut}
-use Rattle.trace_check.specs.Watch as Watching
-use Rattle.trace_check.specs.Watch.{Watch, RoundAt, Latest, Plain, Lost, Waits, Tally, Parts}
+use Rattle.trace_check.specs.declared.watch.Watch.{Watch}
+use Rattle.trace_check.specs.declared.watch.Watch.TheVariants as Watching
+use Rattle.trace_check.specs.Held.{RoundAt, Tally, Parts}
+use Rattle.trace_check.specs.declared.latest.Latest.{Latest}
+use Rattle.trace_check.specs.declared.latest.Latest.TheVariants.{Plain, Lost, Waits}
 use Rattle.trace_check.proofs.Cuts.{FromRest, FromTurn, FromRound}
 
 -- what the next block goes by

@@ -8,8 +8,12 @@ use Rattle.ep_base.specs.Link.LinkFrames.{LinkSetting}
 use Rattle.ep_base.specs.declared.limits.TheConstants.{RESPONSE, WAITS}
 use Rattle.trace_check.specs.Lines.{Line}
 use Rattle.trace_check.specs.Allowed.{IsCut}
-use Rattle.trace_check.specs.Watch as Watching
-use Rattle.trace_check.specs.Watch.{Watch, RoundAt, Latest, Plain, Lost, Waits, Tally, Parts, block_by, part_block, ack_block, fresh, lost, waits, again, is_lost, fits, received, takes_part, after_bad, after_wtx, taken, answered, hears_sending, hears_receiving}
+use Rattle.trace_check.specs.declared.watch.Watch.{Watch}
+use Rattle.trace_check.specs.declared.watch.Watch.TheVariants as Watching
+use Rattle.trace_check.specs.Held.{RoundAt, Tally, Parts}
+use Rattle.trace_check.specs.declared.latest.Latest.{Latest}
+use Rattle.trace_check.specs.declared.latest.Latest.TheVariants.{Plain, Lost, Waits}
+use Rattle.trace_check.specs.Watch.{block_by, part_block, ack_block, fresh, lost, waits, again, is_lost, fits, received, takes_part, after_bad, after_wtx, taken, answered, hears_sending, hears_receiving}
 use Rattle.trace_check.proofs.Cuts.{FromTurn}
 use Rattle.trace_check.proofs.Futures.{latest_of, Matches, GoesOn, Left, sending, receiving, SomeSending, SomeReceiving, EachSending, EachReceiving, MayFollow, MayFit}
 

@@ -12,7 +12,8 @@ use Rattle.ep_base.specs.Link.Parts.{Cut, cut, before_parts}
 use Rattle.ep_base.specs.Link.Parts as Cutting
 use Rattle.block_pcb.proofs.Cuts.{cut_last, cut_more}
 use Rattle.trace_check.specs.Commands.{is_before, may_go_on}
-use Rattle.trace_check.specs.Watch.{Parts, Inf, is_part}
+use Rattle.trace_check.specs.Held.{Parts, Inf}
+use Rattle.trace_check.specs.Watch.{is_part}
 use Rattle.trace_check.proofs.Futures.{GoesOn, Left, SomeLeft}
 
 -- a command with this many bytes, and this fifth one

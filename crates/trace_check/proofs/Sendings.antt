@@ -7,8 +7,10 @@ use Rattle.ep_base.specs.Link.ReaderEnd.{Reader, Sending, ReaderTurn, Asks, Brea
 use Rattle.ep_base.specs.declared.limits.TheConstants.{WAITS}
 use Rattle.trace_check.specs.Lines.{Line}
 use Rattle.trace_check.specs.Allowed.{IsCut}
-use Rattle.trace_check.specs.Watch as Watching
-use Rattle.trace_check.specs.Watch.{Watch, RoundAt, Tally, Parts, lost, waits, again, is_lost, answered, taken, hears_sending}
+use Rattle.trace_check.specs.declared.watch.Watch.{Watch}
+use Rattle.trace_check.specs.declared.watch.Watch.TheVariants as Watching
+use Rattle.trace_check.specs.Held.{RoundAt, Tally, Parts}
+use Rattle.trace_check.specs.Watch.{lost, waits, again, is_lost, answered, taken, hears_sending}
 use Rattle.trace_check.proofs.Cuts.{FromTurn}
 use Rattle.trace_check.proofs.Futures.{Matches, Left, SomeLeft, sending, EachSending, MayFollow, MayFit}
 use Rattle.trace_check.proofs.Hearing.{sends_part, nak_by, match_lost, match_waits, match_again, alike, takes_forward, takes_back, bad_forward, bad_back, wtx_forward, wtx_back}

@@ -17,8 +17,10 @@ use Rattle.rf_frame.proofs.Opening.{opened_sealed}
 use Rattle.block_pcb.proofs.Spellings.{read_spelled}
 use Rattle.trace_check.specs.Lines.{Line}
 use Rattle.trace_check.specs.Allowed.{Sends, IsCut}
-use Rattle.trace_check.specs.Watch as Watching
-use Rattle.trace_check.specs.Watch.{Watch, RoundAt, Inf, part_read, part_opened, part_in, is_part, fresh, begins, settles_rest, settles_next, settles}
+use Rattle.trace_check.specs.declared.watch.Watch.{Watch}
+use Rattle.trace_check.specs.declared.watch.Watch.TheVariants as Watching
+use Rattle.trace_check.specs.Held.{RoundAt, Inf}
+use Rattle.trace_check.specs.Watch.{part_read, part_opened, part_in, is_part, fresh, begins, settles_rest, settles_next, settles}
 use Rattle.trace_check.proofs.Cuts.{FromRest, FromTurn, FromRound, Closed, Begun, from_rest, from_cut, to_cut, to_rest_closed, to_rest_begun}
 use Rattle.trace_check.proofs.Futures.{FromNext, FromClosing, FromRoundAt, EachSending, Follows, MayFollow, Fits, MayFit, rested, sending_next}
 use Rattle.trace_check.proofs.Hearing.{match_fresh}

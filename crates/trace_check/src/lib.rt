@@ -3,7 +3,13 @@
 #![tactic(auto)]
 
 mod check;
+mod latest;
+mod link;
+mod parts;
+mod round;
+mod tally;
 mod verdict;
+mod watch;
 
 pub use check::check_trace;
 pub use ep_base::Wave;
