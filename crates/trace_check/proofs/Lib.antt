@@ -1,4 +1,11 @@
+pub mod Completing
 pub mod Cuts
 pub mod Futures
 pub mod Hearing
+pub mod Lawful
+pub mod Parting
+pub mod Running
 pub mod Sendings
+pub mod Settling
+pub mod Sizing
+pub mod Stepping
