@@ -3,7 +3,9 @@ pub mod Cuts
 pub mod Futures
 pub mod Hearing
 pub mod Lawful
+pub mod Opening
 pub mod Parting
+pub mod Ruling
 pub mod Running
 pub mod Sendings
 pub mod Settling

@@ -42,7 +42,7 @@ IsGoing (Some w) = Unit {0}
 -- ---- forward
 
 module _ (fsdi : ℕ) (After : List Line → Type 0) (Round : RoundAt → List Line → Type 0) where
-  abbrev IfSettled : Option Watch → Type 0
+  abbrev pub IfSettled : Option Watch → Type 0
   IfSettled None = Unit {0}
   IfSettled (Some w) = IsSettled After Round w
 
@@ -59,7 +59,7 @@ module _ (fsdi : ℕ) (After : List Line → Type 0) (Round : RoundAt → List L
   next_settled set number sent None = tt
   next_settled set number sent (Some inf) = begins_settled set number sent inf (is_part _ sent inf)
 
-  settled : (w : Watch) (wave : Wave) (frame : List ℕ) → IfSettled (settles fsdi w wave frame)
+  pub settled : (w : Watch) (wave : Wave) (frame : List ℕ) → IfSettled (settles fsdi w wave frame)
   settled Watching.Ready wave frame = tt
   settled (Watching.InRound round) wave frame = tt
   settled (Watching.Resting set number) wave frame = rest_settled set number (part_in set wave frame)

@@ -3,6 +3,7 @@
 #![tactic(auto)]
 
 mod check;
+mod lanes;
 mod latest;
 mod link;
 mod parts;
