@@ -50,23 +50,31 @@ module _ (fsdi : ℕ) where
 
   -- ---- a link
 
-  sending_ends : (k : ℕ) (t : Tally) (p : Parts) → 3 ≤ k + t.bad → SomeLeft (t.set.frames.card - 3) p → Completion (Watching.Sending t p)
-  sending_by : (k : ℕ) (t : Tally) (p : Parts) (b : Bool) → 3 ≤ k + t.bad → SomeLeft (t.set.frames.card - 3) p → nat_lt (suc t.bad) 3 ≡ b → Completion (if b then Watching.Sending (lost t) p else Watching.Ready)
-  sending_ends k t p enough left =
+  sending_by : (t : Tally) (p : Parts) (b : Bool) → (b ≡ true → Completion (Watching.Sending (lost t) p)) → Completion (if b then Watching.Sending (lost t) p else Watching.Ready)
+  sending_by t p true c = c refl
+  sending_by t p false c = ready
+
+  sending_silent : (t : Tally) (p : Parts) → SomeLeft (t.set.frames.card - 3) p → (nat_lt (suc t.bad) 3 ≡ true → Completion (Watching.Sending (lost t) p)) → Completion (Watching.Sending t p)
+  sending_silent t p left c =
       by_silence (Watching.Sending t p) (after_bad t (Watching.Sending (lost t) p)) (block_ask t.set.kind t.set.fwi (part_block t p)) refl left refl
-      (sending_by k t p (nat_lt (suc t.bad) 3) enough left refl)
-  sending_by k t p false enough left e = ready
-  sending_by zero t p true enough left e = let few : suc t.bad < 3 = leb-true _ _ e in absurd (omega arith)
-  sending_by (suc k) t p true enough left e = sending_ends k (lost t) p (omega arith) left
+      (sending_by t p (nat_lt (suc t.bad) 3) c)
+
+  sending_ends : (k : ℕ) (t : Tally) (p : Parts) → 3 ≤ k + t.bad → SomeLeft (t.set.frames.card - 3) p → Completion (Watching.Sending t p)
+  sending_ends zero t p enough left = sending_silent t p left (λ e. let few : suc t.bad < 3 = leb-true _ _ e in absurd (omega arith))
+  sending_ends (suc k) t p enough left = sending_silent t p left (λ e. sending_ends k (lost t) p (omega arith) left)
+
+  receiving_by : (t : Tally) (got : ℕ) (b : Bool) → (b ≡ true → Completion (Watching.Receiving (lost t) got)) → Completion (if b then Watching.Receiving (lost t) got else Watching.Ready)
+  receiving_by t got true c = c refl
+  receiving_by t got false c = ready
+
+  receiving_silent : (t : Tally) (got : ℕ) → (nat_lt (suc t.bad) 3 ≡ true → Completion (Watching.Receiving (lost t) got)) → Completion (Watching.Receiving t got)
+  receiving_silent t got c =
+      by_silence (Watching.Receiving t got) (after_bad t (Watching.Receiving (lost t) got)) (block_ask t.set.kind t.set.fwi (ack_block t)) refl tt refl
+      (receiving_by t got (nat_lt (suc t.bad) 3) c)
 
   receiving_ends : (k : ℕ) (t : Tally) (got : ℕ) → 3 ≤ k + t.bad → Completion (Watching.Receiving t got)
-  receiving_by : (k : ℕ) (t : Tally) (got : ℕ) (b : Bool) → 3 ≤ k + t.bad → nat_lt (suc t.bad) 3 ≡ b → Completion (if b then Watching.Receiving (lost t) got else Watching.Ready)
-  receiving_ends k t got enough =
-      by_silence (Watching.Receiving t got) (after_bad t (Watching.Receiving (lost t) got)) (block_ask t.set.kind t.set.fwi (ack_block t)) refl tt refl
-      (receiving_by k t got (nat_lt (suc t.bad) 3) enough refl)
-  receiving_by k t got false enough e = ready
-  receiving_by zero t got true enough e = let few : suc t.bad < 3 = leb-true _ _ e in absurd (omega arith)
-  receiving_by (suc k) t got true enough e = receiving_ends k (lost t) got (omega arith)
+  receiving_ends zero t got enough = receiving_silent t got (λ e. let few : suc t.bad < 3 = leb-true _ _ e in absurd (omega arith))
+  receiving_ends (suc k) t got enough = receiving_silent t got (λ e. receiving_ends k (lost t) got (omega arith))
 
   between_ends : (set : LinkSetting) (number : Bool) (sent : List ℕ) → Wide set → may_go_on sent ≡ true → Completion (Watching.Between set number sent)
   between_ends set number sent wide may =

@@ -66,11 +66,11 @@ round_cut fsdi (Goes stage) (l ∷ ls) f =
 round_cut fsdi (Ends e) ls f = record { round = []; rest = ls; end = e; parts = refl; goes = refl; after = f }
 
 pub from_cut : (fsdi : ℕ) (ls : List Line) → IsCut fsdi ls → (ls ≡ []) ⊎ FromRound fsdi (Goes Waking) ls
-from_cut fsdi ls (NoLine ls e) = inl e
-from_cut fsdi ls (ARound ls round rest e parts goes none cut) =
+from_cut fsdi _ (NoLine ls e) = inl e
+from_cut fsdi _ (ARound ls round rest e parts goes none cut) =
     inr (subst (FromRound fsdi (Goes Waking)) (sym parts)
     (cut_round fsdi (Goes Waking) round rest e goes (subst (λ (o : Option Activated). AfterEnd fsdi o rest) (sym none) cut)))
-from_cut fsdi ls (ALink ls round link rest card parts goes is cut) =
+from_cut fsdi _ (ALink ls round link rest card parts goes is cut) =
     inr (subst (FromRound fsdi (Goes Waking)) (sym parts)
     (cut_round fsdi (Goes Waking) round (link ++ rest) (Found card) goes
     (record { link = link; rest = rest; commands = is.0; parts = refl; goes = is.1; cut = cut })))

@@ -79,8 +79,8 @@ match_again t since k m = record { latest = refl; bad = m.bad; wtx = m.wtx }
 -- ---- what fits
 
 pub fit_by : (frame : ℕ) (got : List ℕ) (ch : Bool) (inf : List ℕ) → is_fit frame got ch inf ≡ fits frame (length got) ch (length inf)
-fit_by frame got true inf = ap (λ (n : ℕ). nat_le (length inf + 3) frame && (nat_lt 0 (length inf) && nat_le n RESPONSE)) (length-append got inf)
-fit_by frame got false inf = ap (λ (n : ℕ). nat_le (length inf + 3) frame && (nat_le 2 n && nat_le n RESPONSE)) (length-append got inf)
+fit_by frame got true inf = ap (λ (n : ℕ). nat_le (length inf + 3) frame && nat_lt 0 (length inf) && nat_le n RESPONSE) (length-append got inf)
+fit_by frame got false inf = ap (λ (n : ℕ). nat_le (length inf + 3) frame && nat_le 2 n && nat_le n RESPONSE) (length-append got inf)
 
 -- ---- two tests alike
 

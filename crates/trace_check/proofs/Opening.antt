@@ -212,15 +212,15 @@ module _ (fsdi : ℕ) where
   no_lines (x ∷ xs) rest e o = cc (e)
 
   by_cut : (ys : List Line) → IsCut fsdi ys → (xs rest : List Line) → xs ++ rest ≡ ys → Opened (runs fsdi (Some Watching.Ready) xs) → IsOpenAfter fsdi xs
-  by_cut ys (NoLine ys e) xs rest same o = absurd (no_lines xs rest (same ∙ e) o)
-  by_cut ys (ARound ys round later e parts g none cut) xs rest same o =
+  by_cut _ (NoLine ys e) xs rest same o = absurd (no_lines xs rest (same ∙ e) o)
+  by_cut _ (ARound ys round later e parts g none cut) xs rest same o =
       ⊎_elim
       (λ (p : Past xs rest round later).
           with_round xs round p.between e g none p.first
           (by_cut later cut p.between rest (sym p.second) (subst (λ (c : Option Activated). Opened (runs fsdi (Some (after_end fsdi c)) p.between)) none (after_round_opened xs round p.between e g p.first o))))
       (λ (s : Short xs round). absurd (round_inside xs round e g s o))
       (split xs rest round later (same ∙ parts))
-  by_cut ys (ALink ys round link later card parts g l cut) xs rest same o =
+  by_cut _ (ALink ys round link later card parts g l cut) xs rest same o =
       ⊎_elim
       (λ (p : Past xs rest round (link ++ later)).
           let opened : Opened (runs fsdi (Some (Watching.Resting (setting_of fsdi card) false)) p.between) = after_round_opened xs round p.between (Found card) g p.first o in

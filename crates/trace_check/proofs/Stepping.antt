@@ -107,7 +107,7 @@ end_after : (fsdi other : ℕ) (o : Option Activated) (ls : List Line) → other
 end_after fsdi other None ls e f = f
 end_after fsdi other (Some card) ls e f = subst (λ (n : ℕ). Fits fsdi (after_end n (Some card)) ls) (sym e) f
 
-round_after : (fsdi other : ℕ) (turn : RoundTurn Stage) (ls : List Line) → other ≡ fsdi → FromRound fsdi turn ls → Fits fsdi (after_round other turn) ls
+pub round_after : (fsdi other : ℕ) (turn : RoundTurn Stage) (ls : List Line) → other ≡ fsdi → FromRound fsdi turn ls → Fits fsdi (after_round other turn) ls
 round_after fsdi other (Goes stage) ls e f = (e, f)
 round_after fsdi other (Ends end) ls e f = end_after fsdi other (card_in end) ls e f
 
@@ -116,7 +116,7 @@ follows_end : (fsdi other : ℕ) (o : Option Activated) (ls : List Line) → Fit
 follows_end fsdi other None ls f = f
 follows_end fsdi other (Some card) ls f = f
 
-follows_round : (fsdi other : ℕ) (turn : RoundTurn Stage) (ls : List Line) → Fits fsdi (after_round other turn) ls → Follows (IsCut fsdi) (FromRoundAt fsdi) (after_round other turn) ls
+pub follows_round : (fsdi other : ℕ) (turn : RoundTurn Stage) (ls : List Line) → Fits fsdi (after_round other turn) ls → Follows (IsCut fsdi) (FromRoundAt fsdi) (after_round other turn) ls
 follows_round fsdi other (Goes stage) ls f = f
 follows_round fsdi other (Ends end) ls f = follows_end fsdi other (card_in end) ls f
 

@@ -141,8 +141,8 @@ is_lost (Waits wtxm) = false
 
 -- A part of a response of so many bytes fits after so many.
 abbrev pub fits : (frame got : ℕ) → Bool → ℕ → Bool
-fits frame got true len = nat_le (len + 3) frame && (nat_lt 0 len && nat_le (got + len) RESPONSE)
-fits frame got false len = nat_le (len + 3) frame && (nat_le 2 (got + len) && nat_le (got + len) RESPONSE)
+fits frame got true len = nat_le (len + 3) frame && nat_lt 0 len && nat_le (got + len) RESPONSE
+fits frame got false len = nat_le (len + 3) frame && nat_le 2 (got + len) && nat_le (got + len) RESPONSE
 
 -- A part of a response came: more follow, or it is whole.
 abbrev pub received : Tally → ℕ → Bool → Watch

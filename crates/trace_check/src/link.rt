@@ -1,5 +1,5 @@
 //! A link with a card: what it asks with a block, and what a hearing or a frame says as one.
-ghost use Rattle.std.specs.Prelude.{◌≡◌, ◌≤◌, ◌<◌, length, option_map, IfSome};
+ghost use Rattle.std.specs.Prelude.{◌≡◌, ◌≤◌, ◌<◌, ◌+◌, ◌^◌, length, option_map, IfSome};
 ghost use Rattle.ep_base.specs.Air.Heard.{wave_of_kind};
 ghost use Rattle.ep_base.specs.Cards.CardLimits.{AreLimits};
 ghost use Rattle.ep_base.specs.Link.LinkFrames.{block_ask, heard_block, wait_of};
@@ -100,7 +100,8 @@ impl Link {
 
     /// The size of the frames that the reader takes.
     pub(crate) fn frame(&self) -> usize
-        ensures { result ≡ self.now.frames.reader }
+        ensures value { result ≡ self.now.frames.reader }
+        ensures most { result < 2 ^ 16 }
     {
         usize::from(self.frame)
     }

@@ -1,5 +1,5 @@
 //! The parts of a command, as they were sent.
-ghost use Rattle.std.specs.Prelude.{◌≡◌, ◌≤◌, ◌++◌, [], length, nat_lt, nat_le, ◌&&◌, if◌then◌else◌, Some, None};
+ghost use Rattle.std.specs.Prelude.{◌≡◌, ◌≤◌, ◌+◌, ◌++◌, true, [], length, nat_lt, nat_le, ◌&&◌, if◌then◌else◌, Some, None};
 ghost use Rattle.ep_base.specs.Cards.Apdu.{is_command as command_test};
 ghost use Rattle.ep_base.specs.declared.limits.TheConstants.{COMMAND, INF};
 ghost use Rattle.trace_check.specs.Commands.{is_before as before_test, may_go_on as goes_on};
@@ -99,7 +99,8 @@ impl Begun {
     /// Whether some command begins with these bytes and a part, where each of its parts but the last has `size` bytes.
     #[tactic(auto, unfolding(crate::specs::Commands::may_go_on, ep_base::specs::Cards::Apdu::is_command))]
     fn is_part(&self, size: usize, inf: &Inf<'_>) -> bool
-        ensures { result ≡ part_test size self.now (inf_of inf.now) }
+        ensures test { result ≡ part_test size self.now (inf_of inf.now) }
+        ensures room { result ≡ true → length self.now + length inf.now.bytes.now ≤ COMMAND }
     {
         let Some(whole) = self.with(inf.bytes) else {
             return false;
