@@ -156,7 +156,9 @@ impl Link {
         if wave != wave_of(self.kind) {
             return None;
         }
-        let message = open_frame(wave, frame)?;
+        let Some(message) = open_frame(wave, frame) else {
+            return None;
+        };
         match decode(message) {
             Ok(Block::I { chained, inf, .. }) => Some(Inf {
                 chained,
