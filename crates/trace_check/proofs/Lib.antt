@@ -1,3 +1,4 @@
+pub mod Checking
 pub mod Completing
 pub mod Cuts
 pub mod Futures

@@ -3,12 +3,13 @@ ghost use Rattle.std.specs.Prelude.{◌≡◌, ◌≤◌, ◌<◌, ◌+◌, ◌^
 ghost use Rattle.ep_base.specs.Air.Heard.{wave_of_kind};
 ghost use Rattle.ep_base.specs.Cards.CardLimits.{AreLimits};
 ghost use Rattle.ep_base.specs.Link.LinkFrames.{block_ask, heard_block, wait_of};
+ghost use Rattle.ep_base.specs.Link.Spelling.{read_block};
 ghost use Rattle.ep_base.specs.Poll.Radio.{setting_of};
-ghost use Rattle.ep_base.specs.declared.limits.TheConstants.{INF};
+ghost use Rattle.ep_base.specs.declared.limits.TheConstants.{INF, MESSAGE};
 ghost use Rattle.block_pcb.specs.Meaning.{block_of, InRange};
 ghost use Rattle.rf_frame.specs.Meaning.{heard_of};
 ghost use Rattle.trace_check.specs.Meaning.{inf_of, said_of, SaysInRange};
-ghost use Rattle.trace_check.specs.Watch.{part_in};
+ghost use Rattle.trace_check.specs.Watch.{part_in, part_read};
 
 use block_pcb::{Block, decode, encode};
 use ep_base::{CardKind, FrameBuf, Wave, frame_size};
@@ -159,12 +160,21 @@ impl Link {
         let Some(message) = open_frame(wave, frame) else {
             return None;
         };
-        match decode(message) {
-            Ok(Block::I { chained, inf, .. }) => Some(Inf {
-                chained,
-                bytes: inf,
-            }),
-            _ => None,
-        }
+        part_of(message)
+    }
+}
+
+/// The I-block that a message of at most 254 bytes is, if it is one.
+fn part_of(message: &[u8]) -> Option<Inf<'_>>
+    requires { length message.now ≤ MESSAGE }
+    ensures part { option_map inf_of result ≡ part_read (read_block message.now) }
+    ensures most { IfSome result (λ p. length p.bytes.now ≤ INF) }
+{
+    match decode(message) {
+        Ok(Block::I { chained, inf, .. }) => Some(Inf {
+            chained,
+            bytes: inf,
+        }),
+        _ => None,
     }
 }

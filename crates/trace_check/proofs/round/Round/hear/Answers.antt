@@ -1,5 +1,5 @@
 use Rattle.std.proofs.Common.{◌≡◌, ℕ, List, Option, Some, None, refl, ap, ◌∙◌, subst}
-use Rattle.std.specs.Prelude.{IsSome}
+use Rattle.std.specs.Option.{IsSome}
 use Rattle.ep_base.specs.Air.Heard as air
 use Rattle.ep_base.specs.Air.Heard.{RoundTurn, Goes, Ends, end_of}
 use Rattle.ep_base.specs.Poll.Round.{Stage, round_hears}
@@ -20,6 +20,6 @@ by_end n None h o e is some ends = absurd some
 by_end n (Some stage) h o e is some ends =
     by_turn n (round_hears stage h) (round_end_of e) (subst (λ (x : Option RoundEnd). maybe_end x ≡ end_of (round_hears stage h)) is ends)
 
-returns-in-Some : goal.returns-in-Some
+pub returns-in-Some : goal.returns-in-Some
 returns-in-Some c =
     rw (c.self.view_is) (c.after_end.ensures ∙ by_end c.self.inside.fsdi c.self.inside.poll.stage (heard_of c.args.heard.now) c.heard.result c.in-Some.end c.in-Some.is c.self.invariant.2 c.heard.ensures.end)
