@@ -1,19 +1,25 @@
 -- The check goes through a trace line by line.
-use Rattle.std.proofs.Common.{◌≡◌, ◌≢◌, ◌⊎◌, ℕ, suc, ◌+◌, ◌-◌, ◌<◌, ◌≤◌, ◌==◌, Bool, true, false, List, [], ◌∷◌, ◌++◌, length, Option, Some, None, inl, inr, refl, sym, ap, ◌∙◌, subst, ⊎_elim, arith, append-nil, append_assoc, All}
+use Rattle.std.proofs.Common.{◌≡◌, ◌≢◌, ◌⊎◌, ℕ, suc, ◌+◌, ◌-◌, ◌<◌, ◌≤◌, ◌==◌, Bool, true, false, List, [], ◌∷◌, ◌++◌, length, map, take, drop, get_or, add-one, length-take, Option, Some, None, inl, inr, refl, sym, ap, ◌∙◌, subst, ⊎_elim, arith, append-nil, append_assoc, All}
 use Rattle.std.specs.Prelude.{if◌then◌else◌, slice_index_or, nat_le, ◌&&◌}
 use Rattle.std.proofs.lemmas.Bool.{eqb-true, eq-eqb}
 use Rattle.std.proofs.lemmas.Bool.Decides.{eqb_tells, leb_tells}
-use Rattle.std.proofs.lemmas.List.Elements.{All-head, All-tail}
+use Rattle.std.proofs.lemmas.List.Elements.{All-nil, All-cons, All-head, All-tail}
+use Rattle.std.proofs.Math.ListN.{drop_of_length-le}
+use Rattle.std.proofs.Math.Seq.{take-suc, drop-cons}
+use Rattle.std.proofs.lemmas.List.{take-append-drop, map-append, length-map}
 use Rattle.ep_base.specs.declared.limits.TheConstants.{LANES}
 use Rattle.ep_claim.specs.Text.TraceLine.{TraceLine}
+use Rattle.trace_io.specs.declared.line.TraceLine.{TraceLine as Declared}
+use Rattle.trace_io.specs.Meaning.{traced_of}
 use Rattle.trace_check.specs.Lines.{Line, line_of, lines_of}
 use Rattle.trace_check.specs.Allowed.{IsCut, IsAllowed}
-use Rattle.trace_check.specs.Verdicts.{HasLane, AreAllowed, lines_to, IsFirstBad}
+use Rattle.trace_check.specs.Verdicts.{HasLane, AreAllowed, lines_to, IsFirstBad, IsRule, Names}
+use Rattle.trace_check.specs.declared.verdict.Rule.{Rule}
 use Rattle.trace_check.specs.declared.watch.Watch.{Watch}
 use Rattle.trace_check.specs.declared.watch.Watch.TheVariants as Watching
-use Rattle.trace_check.specs.Watch.{steps}
+use Rattle.trace_check.specs.Watch.{steps, rule_of}
 use Rattle.trace_check.proofs.Running.{runs, runs_append, IsGoing, allowed_going, going_allowed}
-use Rattle.trace_check.proofs.Ruling.{last_line, line_going}
+use Rattle.trace_check.proofs.Ruling.{last_line, line_going, rule_is}
 
 -- ---- lines of a lane
 
@@ -119,3 +125,68 @@ module _ (fsdi : ℕ) where
     pub not_allowed : (trace : List TraceLine) → trace ≡ before ++ l ∷ after → AreAllowed fsdi trace → ⊥
     not_allowed trace parts a =
         bad (first_allowed (lines_to before l) (lines_of l.sent.lane after) (subst (IsAllowed fsdi) (ap (lines_of l.sent.lane) parts ∙ up_to before after l) (a l.sent.lane)))
+
+-- ---- a slice of lines
+
+pub parts_at : (xs : List Declared) (i : ℕ) (x : Declared) → i < length xs → x ≡ get_or xs i x → map traced_of xs ≡ map traced_of (take i xs) ++ traced_of x ∷ map traced_of (drop (suc i) xs)
+parts_at xs i x small is =
+    let rest : drop i xs ≡ x ∷ drop (suc i) xs = drop-cons xs i x small ∙ ap (λ (y : Declared). y ∷ drop (suc i) xs) (sym is) in
+    ap (map traced_of) (sym (take-append-drop i xs) ∙ ap (λ (l : List Declared). take i xs ++ l) rest) ∙ map-append traced_of (take i xs) (x ∷ drop (suc i) xs)
+
+pub next_at : (xs : List Declared) (i : ℕ) (x : Declared) → i < length xs → x ≡ get_or xs i x → map traced_of (take (i + 1) xs) ≡ map traced_of (take i xs) ++ traced_of x ∷ []
+next_at xs i x small is =
+    ap (λ (n : ℕ). map traced_of (take n xs)) (add-one i) ∙ ap (map traced_of) (take-suc xs i x small ∙ ap (λ (y : Declared). take i xs ++ y ∷ []) (sym is)) ∙ map-append traced_of (take i xs) (x ∷ [])
+
+pub has_of : (xs : List Declared) (i : ℕ) (x : Declared) → i < length xs → x ≡ get_or xs i x → All HasLane (map traced_of xs) → HasLane (traced_of x)
+has_of xs i x small is all = has_at (map traced_of (take i xs)) (map traced_of (drop (suc i) xs)) (traced_of x) (subst (All HasLane) (parts_at xs i x small is) all)
+
+pub all_before : (xs ys : List TraceLine) → All HasLane (xs ++ ys) → All HasLane xs
+all_before [] ys all = All-nil HasLane
+all_before (x ∷ xs) ys all = All-cons HasLane x xs (All-head HasLane x (xs ++ ys) all) (all_before xs ys (All-tail HasLane x (xs ++ ys) all))
+
+pub place_at : (xs : List Declared) (i : ℕ) → i < length xs → i + 1 ≡ length (map traced_of (take i xs)) + 1
+place_at xs i small = omega (arith, length-map (take i xs) traced_of, length-take i xs)
+
+-- the verdict on a bad line
+pub names_at : (fsdi : ℕ) (xs : List Declared) (i : ℕ) (x : Declared) (ws : List Watch) (lane : ℕ) (rule : Rule) → i < length xs → x ≡ get_or xs i x → All HasLane (map traced_of xs)
+    → Watched fsdi (map traced_of (take i xs)) ws → steps fsdi (slice_index_or ws (x.sent.lane - 1) Watching.Ready) (line_of (traced_of x)) ≡ None
+    → lane ≡ x.sent.lane → rule ≡ rule_of fsdi (slice_index_or ws (x.sent.lane - 1) Watching.Ready) (line_of (traced_of x))
+    → Names fsdi (map traced_of xs) (record { place = i + 1; lane = lane; rule = rule })
+names_at fsdi xs i x ws lane rule small is all w none same rules =
+    let before : List TraceLine = map traced_of (take i xs) in
+    let after : List TraceLine = map traced_of (drop (suc i) xs) in
+    let parts : map traced_of xs ≡ before ++ traced_of x ∷ after = parts_at xs i x small is in
+    let has : HasLane (traced_of x) = has_of xs i x small is all in
+    let here : All HasLane before = all_before before (traced_of x ∷ after) (subst (All HasLane) parts all) in
+    record {
+      before = before;
+      line = traced_of x;
+      after = after;
+      parts = parts;
+      bad = first_bad fsdi before after (traced_of x) ws here has w none;
+      place = place_at xs i small;
+      lane = same;
+      rule =
+          subst (IsRule fsdi (lines_of x.sent.lane before) (line_of (traced_of x))) (sym rules)
+          (rule_is fsdi (lines_of x.sent.lane before) (slice_index_or ws (x.sent.lane - 1) Watching.Ready) (line_of (traced_of x)) (w x.sent.lane has.0 has.1));
+    }
+
+pub refused_at : (fsdi : ℕ) (xs : List Declared) (i : ℕ) (x : Declared) (ws : List Watch) → i < length xs → x ≡ get_or xs i x → All HasLane (map traced_of xs)
+    → Watched fsdi (map traced_of (take i xs)) ws → steps fsdi (slice_index_or ws (x.sent.lane - 1) Watching.Ready) (line_of (traced_of x)) ≡ None → AreAllowed fsdi (map traced_of xs) → ⊥
+refused_at fsdi xs i x ws small is all w none =
+    let before : List TraceLine = map traced_of (take i xs) in
+    let after : List TraceLine = map traced_of (drop (suc i) xs) in
+    let parts : map traced_of xs ≡ before ++ traced_of x ∷ after = parts_at xs i x small is in
+    not_allowed fsdi before after (traced_of x) ws (all_before before (traced_of x ∷ after) (subst (All HasLane) parts all)) (has_of xs i x small is all) w none (map traced_of xs) parts
+
+pub watched_at : (fsdi : ℕ) (xs : List Declared) (i : ℕ) (x : Declared) (old new : List Watch) → i < length xs → x ≡ get_or xs i x → All HasLane (map traced_of xs)
+    → Watched fsdi (map traced_of (take i xs)) old
+    → steps fsdi (slice_index_or old (x.sent.lane - 1) Watching.Ready) (line_of (traced_of x)) ≡ Some (slice_index_or new (x.sent.lane - 1) Watching.Ready)
+    → ((k : ℕ) → k ≢ x.sent.lane - 1 → slice_index_or new k Watching.Ready ≡ slice_index_or old k Watching.Ready) → Watched fsdi (map traced_of (take (i + 1) xs)) new
+watched_at fsdi xs i x old new small is all w step others =
+    subst (λ (l : List TraceLine). Watched fsdi l new) (sym (next_at xs i x small is))
+    (watched_next fsdi (map traced_of (take i xs)) (traced_of x) old new (has_of xs i x small is all) w step others)
+
+pub taken_all : (xs : List Declared) (i : ℕ) → length xs ≤ i → map traced_of (take i xs) ≡ map traced_of xs
+taken_all xs i large =
+    ap (map traced_of) (sym (append-nil (take i xs)) ∙ ap (λ (l : List Declared). take i xs ++ l) (sym (drop_of_length-le xs large)) ∙ take-append-drop i xs)

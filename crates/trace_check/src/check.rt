@@ -20,12 +20,10 @@ pub fn check_trace(lines: &[TraceLine], fsdi: u8) -> Result<(), Verdict>
 {
     let mut lanes = Lanes::new();
     'lines: for (index, line) in lines.iter().enumerate() {
+        let lane = line.sent.lane;
         if let Err(rule) = lanes.step(line, fsdi) {
-            return Err(Verdict {
-                place: index as u32 + 1,
-                lane: line.sent.lane,
-                rule,
-            });
+            let place = index as u32 + 1;
+            return Err(Verdict { place, lane, rule });
         }
     }
     Ok(())

@@ -1,15 +1,14 @@
 //! A link with a card: what it asks with a block, and what a hearing or a frame says as one.
-ghost use Rattle.std.specs.Prelude.{◌≡◌, ◌≤◌, ◌<◌, ◌+◌, ◌^◌, length, option_map, IfSome};
+ghost use Rattle.std.specs.Prelude.{◌≡◌, ◌≤◌, ◌<◌, ◌+◌, ◌^◌, option_map};
 ghost use Rattle.ep_base.specs.Air.Heard.{wave_of_kind};
 ghost use Rattle.ep_base.specs.Cards.CardLimits.{AreLimits};
 ghost use Rattle.ep_base.specs.Link.LinkFrames.{block_ask, heard_block, wait_of};
-ghost use Rattle.ep_base.specs.Link.Spelling.{read_block};
 ghost use Rattle.ep_base.specs.Poll.Radio.{setting_of};
-ghost use Rattle.ep_base.specs.declared.limits.TheConstants.{INF, MESSAGE};
+ghost use Rattle.ep_base.specs.declared.limits.TheConstants.{INF};
 ghost use Rattle.block_pcb.specs.Meaning.{block_of, InRange};
 ghost use Rattle.rf_frame.specs.Meaning.{heard_of};
 ghost use Rattle.trace_check.specs.Meaning.{inf_of, said_of, SaysInRange};
-ghost use Rattle.trace_check.specs.Watch.{part_in, part_read};
+ghost use Rattle.trace_check.specs.Watch.{part_in};
 
 use block_pcb::{Block, decode, encode};
 use ep_base::{CardKind, FrameBuf, Wave, frame_size};
@@ -45,13 +44,14 @@ pub(crate) struct Link {
 
 impl Model for Link {
     ghost use Rattle.std.specs.Prelude.{◌≤◌};
+    ghost use Rattle.ep_base.specs.declared.limits.TheConstants.{FRAME};
     ghost use Rattle.ep_base.specs.Link.LinkFrames.{LinkSetting};
 
     ghost Value = { LinkSetting };
 
     ghost view = { λ l. record { kind = l.kind; frames = record { card = l.card_frame; reader = l.frame }; fwi = l.fwi } };
 
-    ghost invariant = { λ l. (16 ≤ l.card_frame) × (l.fwi ≤ 14) };
+    ghost invariant = { λ l. (16 ≤ l.card_frame) × (l.card_frame ≤ FRAME) × (l.fwi ≤ 14) };
 }
 
 /// The wave of a kind's frames with check bytes (ISO/IEC 14443-3).
@@ -94,7 +94,8 @@ impl Link {
 
     /// How many bytes of INF the parts of a command have, but for the last one.
     pub(crate) fn part_size(&self) -> usize
-        ensures { result + 3 ≡ self.now.frames.card }
+        ensures value { result + 3 ≡ self.now.frames.card }
+        ensures most { result ≤ INF }
     {
         usize::from(self.card_frame) - 3
     }
@@ -151,8 +152,7 @@ impl Link {
 
     /// The I-block that a frame of this link is, if it is one.
     pub(crate) fn part<'f>(&self, wave: Wave, frame: &'f FrameBuf) -> Option<Inf<'f>>
-        ensures part { option_map inf_of result ≡ part_in self.now wave frame.now.items }
-        ensures most { IfSome result (λ p. length p.bytes.now ≤ INF) }
+        ensures { option_map inf_of result ≡ part_in self.now wave frame.now.items }
     {
         if wave != wave_of(self.kind) {
             return None;
@@ -160,21 +160,12 @@ impl Link {
         let Some(message) = open_frame(wave, frame) else {
             return None;
         };
-        part_of(message)
-    }
-}
-
-/// The I-block that a message of at most 254 bytes is, if it is one.
-fn part_of(message: &[u8]) -> Option<Inf<'_>>
-    requires { length message.now ≤ MESSAGE }
-    ensures part { option_map inf_of result ≡ part_read (read_block message.now) }
-    ensures most { IfSome result (λ p. length p.bytes.now ≤ INF) }
-{
-    match decode(message) {
-        Ok(Block::I { chained, inf, .. }) => Some(Inf {
-            chained,
-            bytes: inf,
-        }),
-        _ => None,
+        match decode(message) {
+            Ok(Block::I { chained, inf, .. }) => Some(Inf {
+                chained,
+                bytes: inf,
+            }),
+            _ => None,
+        }
     }
 }

@@ -100,7 +100,7 @@ impl Begun {
     #[tactic(auto, unfolding(crate::specs::Commands::may_go_on, ep_base::specs::Cards::Apdu::is_command))]
     fn is_part(&self, size: usize, inf: &Inf<'_>) -> bool
         ensures test { result ≡ part_test size self.now (inf_of inf.now) }
-        ensures room { result ≡ true → length self.now + length inf.now.bytes.now ≤ COMMAND }
+        ensures room { result ≡ true → (length self.now + length inf.now.bytes.now ≤ COMMAND) × (length inf.now.bytes.now ≤ size) }
     {
         let Some(whole) = self.with(inf.bytes) else {
             return false;
@@ -114,7 +114,7 @@ impl Begun {
 
     /// The next part, if some command goes on with it.
     pub(crate) fn next(self, size: usize, inf: &Inf<'_>) -> Option<Parts>
-        requires { length inf.now.bytes.now ≤ INF }
+        requires { size ≤ INF }
         ensures { result ≡ (if part_test size self (inf_of inf.now) then Some (record { sent = self; part = inf.now.bytes.now; chained = inf.now.chained }) else None) }
     {
         if !self.is_part(size, inf) {

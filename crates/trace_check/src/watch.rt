@@ -1,7 +1,6 @@
 //! A lane as the checker watches it, one line at a time.
-ghost use Rattle.std.specs.Prelude.{◌≡◌, ◌<◌, ◌≤◌, length, is_ok, IfErr, IfOk, Option, Some, None, Ok, Err, false, true, []};
+ghost use Rattle.std.specs.Prelude.{◌≡◌, ◌<◌, IfErr};
 ghost use Rattle.ep_base.specs.Link.LinkFrames.{heard_block};
-ghost use Rattle.ep_base.specs.declared.limits.TheConstants.{INF};
 ghost use Rattle.rf_frame.specs.Meaning.{heard_of};
 ghost use Rattle.trace_check.specs.Meaning.{exchange_of, inf_of};
 ghost use Rattle.trace_check.specs.Watch as plain;
@@ -9,7 +8,7 @@ ghost use Rattle.trace_check.specs.Watch as plain;
 use crate::link::{Inf, Link, ReadBlock};
 use crate::parts::{Begun, Parts};
 use crate::round::Round;
-use crate::tally::{Tally, other, same};
+use crate::tally::{Tally, same};
 use crate::{Heard, Rule, Shown, TraceLine};
 use block_pcb::Block;
 use rf_frame::Ask;
@@ -35,7 +34,6 @@ pub(crate) enum Watch {
 
 /// A command goes on with a part.
 fn begin(link: Link, number: bool, sent: Begun, inf: &Inf<'_>) -> Option<Watch>
-    requires { length inf.now.bytes.now ≤ INF }
     ensures { result ≡ plain.begins link number sent (inf_of inf.now) }
 {
     let size = link.part_size();

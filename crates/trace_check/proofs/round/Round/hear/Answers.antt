@@ -1,4 +1,4 @@
-use Rattle.std.proofs.Common.{◌≡◌, ℕ, List, Option, Some, None, refl, ap, ◌∙◌, subst}
+use Rattle.std.proofs.Common.{rules, ◌≡◌, ℕ, List, Option, Some, None, refl, ap, ◌∙◌, subst}
 use Rattle.std.specs.Option.{IsSome}
 use Rattle.ep_base.specs.Air.Heard as air
 use Rattle.ep_base.specs.Air.Heard.{RoundTurn, Goes, Ends, end_of}
@@ -16,10 +16,10 @@ by_turn n (Goes stage) e is = cc
 by_turn n (Ends end) e is = let same : e ≡ end = cc in ap (λ (x : air.RoundEnd). after_end n (card_in x)) same
 
 by_end : (n : ℕ) (stage : Option Stage) (h : air.Heard) (o : Option RoundEnd) (e : RoundEnd) → o ≡ Some e → IsSome stage → maybe_end o ≡ end_of (turn_in stage h) → after_end n (card_in (round_end_of e)) ≡ after_round n (round_hears (stage_in stage) h)
-by_end n None h o e is some ends = absurd some
+by_end n None h o e is some ends = absurd (search rules)
 by_end n (Some stage) h o e is some ends =
     by_turn n (round_hears stage h) (round_end_of e) (subst (λ (x : Option RoundEnd). maybe_end x ≡ end_of (round_hears stage h)) is ends)
 
 pub returns-in-Some : goal.returns-in-Some
 returns-in-Some c =
-    rw (c.self.view_is) (c.after_end.ensures ∙ by_end c.self.inside.fsdi c.self.inside.poll.stage (heard_of c.args.heard.now) c.heard.result c.in-Some.end c.in-Some.is c.self.invariant.2 c.heard.ensures.end)
+    rw (← c.self.view_is) (c.after_end.ensures ∙ by_end c.self.inside.fsdi c.self.inside.poll.stage (heard_of c.args.heard.now) c.heard.result c.in-Some.end c.in-Some.is c.self.invariant.2 c.heard.ensures.end)
