@@ -75,15 +75,15 @@ module _ (fsdi : ℕ) where
   watched_next before l old new has w step others lane least most =
       ⊎_elim
       (λ h.
-          let same : l.sent.lane ≡ lane = h.1 in
-          subst (λ (n : ℕ). runs fsdi (Some Watching.Ready) (lines_of n (before ++ l ∷ [])) ≡ Some (slice_index_or new (n - 1) Watching.Ready)) same
-          (ap (runs fsdi (Some Watching.Ready)) (up_to before [] l ∙ append-nil (lines_to before l))
-          ∙ last_line fsdi (lines_of l.sent.lane before) (slice_index_or old (l.sent.lane - 1) Watching.Ready) (line_of l) (w l.sent.lane has.0 has.1) ∙ step))
+      let same : l.sent.lane ≡ lane = h.1 in
+      subst (λ (n : ℕ). runs fsdi (Some Watching.Ready) (lines_of n (before ++ l ∷ [])) ≡ Some (slice_index_or new (n - 1) Watching.Ready)) same
+      (ap (runs fsdi (Some Watching.Ready)) (up_to before [] l ∙ append-nil (lines_to before l))
+      ∙ last_line fsdi (lines_of l.sent.lane before) (slice_index_or old (l.sent.lane - 1) Watching.Ready) (line_of l) (w l.sent.lane has.0 has.1) ∙ step))
       (λ h.
-          let differ : l.sent.lane ≢ lane = h.1 in
-          let place : lane - 1 ≢ l.sent.lane - 1 = omega (arith, has.0, least) in
-          ap (runs fsdi (Some Watching.Ready)) (lines_append lane before (l ∷ []) ∙ ap (λ (x : List Line). lines_of lane before ++ x) (other_first lane l [] differ) ∙ append-nil (lines_of lane before))
-          ∙ w lane least most ∙ ap (λ (x : Watch). Some x) (sym (others (lane - 1) place)))
+      let differ : l.sent.lane ≢ lane = h.1 in
+      let place : lane - 1 ≢ l.sent.lane - 1 = omega (arith, has.0, least) in
+      ap (runs fsdi (Some Watching.Ready)) (lines_append lane before (l ∷ []) ∙ ap (λ (x : List Line). lines_of lane before ++ x) (other_first lane l [] differ) ∙ append-nil (lines_of lane before))
+      ∙ w lane least most ∙ ap (λ (x : Watch). Some x) (sym (others (lane - 1) place)))
       (eqb_tells l.sent.lane lane)
 
   going_some : (o : Option Watch) (w : Watch) → o ≡ Some w → IsGoing o
@@ -100,9 +100,9 @@ module _ (fsdi : ℕ) where
   all_allowed trace ws all w lane =
       ⊎_elim
       (λ least. ⊎_elim
-          (λ most. lane_allowed trace ws lane w least.1 most.1)
-          (λ more. none_allowed (lines_of lane trace) (no_lines lane trace (λ h. omega (arith, h.1, more.1)) all))
-          (leb_tells lane LANES))
+      (λ most. lane_allowed trace ws lane w least.1 most.1)
+      (λ more. none_allowed (lines_of lane trace) (no_lines lane trace (λ h. omega (arith, h.1, more.1)) all))
+      (leb_tells lane LANES))
       (λ none. none_allowed (lines_of lane trace) (no_lines lane trace (λ h. omega (arith, h.0, none.1)) all))
       (leb_tells 1 lane)
 

@@ -82,7 +82,7 @@ module _ (fsdi : ℕ) where
       let c : Cut = cut (set.frames.card - 3) g.more in
       let n : IsNext (set.frames.card - 3) sent c = is_next (set.frames.card - 3) sent g.more (omega (arith, wide)) g.some g.is in
       let e : Completion (Watching.Sending (fresh set number) (record { sent = sent; part = c.first; chained = more c.others })) =
-          sending_ends 3 (fresh set number) (record { sent = sent; part = c.first; chained = more c.others }) (omega arith) (record { left = c.others; is = n.left }) in
+      sending_ends 3 (fresh set number) (record { sent = sent; part = c.first; chained = more c.others }) (omega arith) (record { left = c.others; is = n.left }) in
       record { rest = e.rest; fits = next_by fsdi set number sent (first_inf c) e.rest wide n.is e.fits }
 
   -- ---- a round

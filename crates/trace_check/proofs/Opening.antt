@@ -153,9 +153,9 @@ module _ (fsdi : ℕ) where
   after_opened xs a =
       let set : LinkSetting = setting_of fsdi a.card in
       let first : runs fsdi (Some Watching.Ready) (a.before ++ (a.round ++ a.part)) ≡ runs fsdi (Some Watching.Ready) (a.round ++ a.part) =
-          runs_append fsdi (Some Watching.Ready) a.before (a.round ++ a.part) ∙ ap (λ (o : Option Watch). runs fsdi o (a.round ++ a.part)) (cut_runs a.before a.cut) in
+      runs_append fsdi (Some Watching.Ready) a.before (a.round ++ a.part) ∙ ap (λ (o : Option Watch). runs fsdi o (a.round ++ a.part)) (cut_runs a.before a.cut) in
       let second : runs fsdi (Some Watching.Ready) (a.round ++ a.part) ≡ runs fsdi (Some (Watching.Resting set false)) a.part =
-          runs_append fsdi (Some Watching.Ready) a.round a.part ∙ ap (λ (o : Option Watch). runs fsdi o a.part) (round_runs a.round (Found a.card) a.found) in
+      runs_append fsdi (Some Watching.Ready) a.round a.part ∙ ap (λ (o : Option Watch). runs fsdi o a.part) (round_runs a.round (Found a.card) a.found) in
       subst Opened (sym (ap (runs fsdi (Some Watching.Ready)) a.parts ∙ first ∙ second))
       (link_opened set a.part a.rest (wide_after a.round a.card a.found) a.going a.link)
 
@@ -216,24 +216,24 @@ module _ (fsdi : ℕ) where
   by_cut _ (ARound ys round later e parts g none cut) xs rest same o =
       ⊎_elim
       (λ (p : Past xs rest round later).
-          with_round xs round p.between e g none p.first
-          (by_cut later cut p.between rest (sym p.second) (subst (λ (c : Option Activated). Opened (runs fsdi (Some (after_end fsdi c)) p.between)) none (after_round_opened xs round p.between e g p.first o))))
+      with_round xs round p.between e g none p.first
+      (by_cut later cut p.between rest (sym p.second) (subst (λ (c : Option Activated). Opened (runs fsdi (Some (after_end fsdi c)) p.between)) none (after_round_opened xs round p.between e g p.first o))))
       (λ (s : Short xs round). absurd (round_inside xs round e g s o))
       (split xs rest round later (same ∙ parts))
   by_cut _ (ALink ys round link later card parts g l cut) xs rest same o =
       ⊎_elim
       (λ (p : Past xs rest round (link ++ later)).
-          let opened : Opened (runs fsdi (Some (Watching.Resting (setting_of fsdi card) false)) p.between) = after_round_opened xs round p.between (Found card) g p.first o in
-          ⊎_elim
-          (λ (q : Past p.between rest link later).
-              with_link xs round link q.between card g l (p.first ∙ ap (λ (x : List Line). round ++ x) q.first)
-              (by_cut later cut q.between rest (sym q.second)
-              (subst Opened
-              (ap (runs fsdi (Some (Watching.Resting (setting_of fsdi card) false))) q.first ∙ runs_append fsdi (Some (Watching.Resting (setting_of fsdi card) false)) link q.between
-              ∙ ap (λ (w : Option Watch). runs fsdi w q.between) (link_runs (setting_of fsdi card) link (wide_after round card g) l))
-              opened)))
-          (λ (s : Short p.between link). within xs round p.between link card g l p.first s)
-          (split p.between rest link later (sym p.second)))
+      let opened : Opened (runs fsdi (Some (Watching.Resting (setting_of fsdi card) false)) p.between) = after_round_opened xs round p.between (Found card) g p.first o in
+      ⊎_elim
+      (λ (q : Past p.between rest link later).
+      with_link xs round link q.between card g l (p.first ∙ ap (λ (x : List Line). round ++ x) q.first)
+      (by_cut later cut q.between rest (sym q.second)
+      (subst Opened
+      (ap (runs fsdi (Some (Watching.Resting (setting_of fsdi card) false))) q.first ∙ runs_append fsdi (Some (Watching.Resting (setting_of fsdi card) false)) link q.between
+      ∙ ap (λ (w : Option Watch). runs fsdi w q.between) (link_runs (setting_of fsdi card) link (wide_after round card g) l))
+      opened)))
+      (λ (s : Short p.between link). within xs round p.between link card g l p.first s)
+      (split p.between rest link later (sym p.second)))
       (λ (s : Short xs round). absurd (round_inside xs round (Found card) g s o))
       (split xs rest round (link ++ later) (same ∙ parts))
 

@@ -84,12 +84,12 @@ test_goes_on bytes h =
     let fifth : ℕ = slice_index bytes 4 in
     ⊎_elim
     (λ long.
-        ⊎_elim
-        (λ small. fills bytes (5 + fifth - n) (omega (arith, small.1)) (λ g e. rw (e long.1) (exact n (5 + fifth - n) fifth (omega (arith, long.1, small.1)) (omega (arith, small.1)) (early_enough n fifth long.1 (omega (arith, small.1)) h))))
-        (λ large.
-            let f = late_enough n fifth long.1 (omega (arith, large.1)) h in
-            fills bytes (6 + fifth - n) (omega (arith, f.1)) (λ g e. rw (e long.1) (exact_le n (6 + fifth - n) fifth f.0 (omega (arith, f.1)) f.2)))
-        (leb_tells (n + 1) (5 + fifth)))
+    ⊎_elim
+    (λ small. fills bytes (5 + fifth - n) (omega (arith, small.1)) (λ g e. rw (e long.1) (exact n (5 + fifth - n) fifth (omega (arith, long.1, small.1)) (omega (arith, small.1)) (early_enough n fifth long.1 (omega (arith, small.1)) h))))
+    (λ large.
+    let f = late_enough n fifth long.1 (omega (arith, large.1)) h in
+    fills bytes (6 + fifth - n) (omega (arith, f.1)) (λ g e. rw (e long.1) (exact_le n (6 + fifth - n) fifth f.0 (omega (arith, f.1)) f.2)))
+    (leb_tells (n + 1) (5 + fifth)))
     (λ short. fills bytes (5 - n) (omega (arith, short.1)) (λ g e. five n g (omega (arith, short.1))))
     (leb_tells 5 n)
 

@@ -73,8 +73,8 @@ module _ (fsdi : ℕ) where
       ask.wait,
       (λ same. let yes_wait : (l.wait == ask.wait) ≡ true = eq-eqb l.wait ask.wait (sym same) in cc (yes_wait, t)),
       subst (λ (o : Option Ask). IsGoing (if has_frame o l.wave l.frame && has_wait o ask.wait then hears w Silence else None)) (sym e)
-      (subst (λ (b : Bool). IsGoing (if b && (ask.wait == ask.wait) then hears w Silence else None)) (sym f)
-      (subst (λ (b : Bool). IsGoing (if b then hears w Silence else None)) (sym (eq-eqb ask.wait ask.wait refl)) (silence_goes w s))),
+          (subst (λ (b : Bool). IsGoing (if b && (ask.wait == ask.wait) then hears w Silence else None)) (sym f)
+          (subst (λ (b : Bool). IsGoing (if b then hears w Silence else None)) (sym (eq-eqb ask.wait ask.wait refl)) (silence_goes w s))),
     )
 
     right_frame : (w : Watch) (t : Bool) → IfSettled fsdi Any AnyRound (Some w) → is_frame (asks w) l ≡ true → is_wait (asks w) l ≡ t → Applies (Some w) (if t then rules.Card else rules.Wait)

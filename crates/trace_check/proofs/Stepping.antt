@@ -201,7 +201,7 @@ module _ (fsdi : ℕ) where
       λ bytes since len m. (
         subst (λ (x : Block). Sends l (block_ask t.set.kind t.set.fwi x)) (sym (sends_ack t bytes since m)) s',
         receiving_back fsdi t ls bytes since (heard_block t.set.kind t.set.frames.reader l.heard) m
-        (subst (λ (n : ℕ). MayFit fsdi (hears_receiving t n (heard_block t.set.kind t.set.frames.reader l.heard)) ls) (sym len) f),
+            (subst (λ (n : ℕ). MayFit fsdi (hears_receiving t n (heard_block t.set.kind t.set.frames.reader l.heard)) ls) (sym len) f),
       )
 
   test_back : (w : Watch) (l : Line) (ls : List Line) (o : Option Ask) (b : Bool) → asks w ≡ o → (is_frame o l && is_wait o l) ≡ b → HasLeft w → MayFit fsdi (if b then hears w l.heard else None) ls → Fits fsdi w (l ∷ ls)

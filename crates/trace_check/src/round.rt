@@ -69,6 +69,7 @@ fn after_end(end: &RoundEnd, fsdi: u8) -> Watch
 {
     match end {
         RoundEnd::Card(card) => Watch::Resting(Link::to(card, fsdi), false),
-        RoundEnd::Empty | RoundEnd::Collision | RoundEnd::Unsupported | RoundEnd::Broken => Watch::Ready,
+        RoundEnd::Empty | RoundEnd::Collision | RoundEnd::Unsupported | RoundEnd::Broken =>
+            Watch::Ready,
     }
 }

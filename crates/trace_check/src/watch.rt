@@ -50,11 +50,13 @@ fn hear_sending(tally: Tally, parts: Parts, heard: &Heard) -> Option<Watch>
             Some(tally) => Some(Watch::Sending(tally, parts)),
             None => Some(Watch::Ready),
         },
-        ReadBlock::Intact(Block::I {
-            number,
-            chained,
-            inf,
-        }) => {
+        ReadBlock::Intact(
+            Block::I {
+                number,
+                chained,
+                inf,
+            },
+        ) => {
             if !same(number == 1, tally.number()) || parts.is_chained() {
                 return None;
             }
@@ -97,11 +99,13 @@ fn hear_receiving(tally: Tally, got: u16, heard: &Heard) -> Option<Watch>
             Some(tally) => Some(Watch::Receiving(tally, got)),
             None => Some(Watch::Ready),
         },
-        ReadBlock::Intact(Block::I {
-            number,
-            chained,
-            inf,
-        }) => {
+        ReadBlock::Intact(
+            Block::I {
+                number,
+                chained,
+                inf,
+            },
+        ) => {
             if !same(number == 1, tally.number()) {
                 return None;
             }

@@ -1,6 +1,7 @@
-use Rattle.std.proofs.Common.{rules, ◌≡◌, ◌<◌, ◌≤◌, length, map, take, subst, refl, arith}
+use Rattle.std.proofs.Common.{rules, ◌≡◌, ◌<◌, ◌≤◌, length, map, take, subst, refl, ap, arith}
 use Rattle.ep_claim.specs.Text.TraceLine.{TraceLine}
 use Rattle.std.proofs.Common.{List}
+use Rattle.trace_io.specs.declared.line.TraceLine.{TraceLine as Declared}
 use Rattle.trace_io.specs.Meaning.{traced_of}
 use Rattle.trace_check.proofs.Checking.{Watched, has_of, all_allowed, names_at, refused_at, watched_at, taken_all}
 use Rattle.trace_check.proofs.check.check_trace.Goals as goal
@@ -16,8 +17,8 @@ returns-in-Err-clause-allowed c = (
 
 pub returns-in-Err-clause-bad : goal.returns-in-Err-clause-bad
 returns-in-Err-clause-bad c =
-    names_at c.args.fsdi c.args.lines.now c.lines.index c.index-lines-index.result c.lines.lanes.watches c.index-lines-index.result.sent.lane c.in-Err.rule
-    c.lines-test.true c.index-lines-index.is c.requires.lanes c.lines.invariant c.in-Err.ensures.bad refl c.in-Err.ensures.rule
+    names_at c.args.fsdi c.args.lines.now c.lines.index c.index-lines-index.result c.lines.lanes.watches _ c.in-Err.rule
+    c.lines-test.true c.index-lines-index.is c.requires.lanes c.lines.invariant c.in-Err.ensures.bad (ap (λ (l : Declared). l.sent.lane) c.line.view_is) c.in-Err.ensures.rule
 
 pub lines-preserved : goal.lines-preserved
 lines-preserved c =
