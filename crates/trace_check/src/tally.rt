@@ -139,13 +139,9 @@ impl Tally {
     pub(crate) fn again(self) -> Tally
         ensures { result ≡ plain.again self }
     {
-        Tally {
-            link: self.link,
-            number: self.number,
-            latest: Latest::Plain,
-            bad: self.bad,
-            wtx: self.wtx,
-        }
+        let mut tally = self;
+        tally.latest = Latest::Plain;
+        tally
     }
 
     /// The link, after the toggle.
