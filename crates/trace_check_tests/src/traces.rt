@@ -1,6 +1,7 @@
 //! Traces that are allowed, and the first bad lines of others.
-ghost use Rattle.std.specs.Prelude.{◌≡◌, ◌≤◌, ◌<◌, ◌^◌, true, All, length};
-ghost use Rattle.ep_base.specs.declared.limits.TheConstants.{LANES};
+ghost use Rattle.std.specs.Prelude.{◌≡◌, true, All, map};
+ghost use Rattle.trace_io.specs.Meaning.{traced_of};
+ghost use Rattle.trace_check.specs.Verdicts.{HasLane};
 
 use std::alloc::Global;
 use std::test::Fail;
@@ -43,12 +44,20 @@ fn read(alloc: Global, text: &str, place: usize, other: &str) -> Result<Vec<Trac
     Ok(lines)
 }
 
+/// Whether a line is of a lane from 1 to 8.
+fn has_lane(line: &TraceLine) -> bool
+    ensures { result ≡ true → HasLane (traced_of line.now) }
+{
+    let lane = line.sent.lane;
+    1 <= lane && lane <= 8
+}
+
 /// Whether all lines are of lanes from 1 to 8.
 fn have_lanes(lines: &[TraceLine]) -> bool
-    ensures { result ≡ true → All (λ l. (1 ≤ l.sent.lane) × (l.sent.lane ≤ LANES)) lines.now }
+    ensures { result ≡ true → All HasLane (map traced_of lines.now) }
 {
     for line in lines {
-        if line.sent.lane < 1 || line.sent.lane > 8 {
+        if !has_lane(line) {
             return false;
         }
     }
