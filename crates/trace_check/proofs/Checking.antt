@@ -1,7 +1,7 @@
 -- The check goes through a trace line by line.
-use Rattle.std.proofs.Common.{◌≡◌, ◌≢◌, ◌⊎◌, ℕ, suc, ◌+◌, ◌-◌, ◌<◌, ◌≤◌, ◌==◌, Bool, true, false, List, [], ◌∷◌, ◌++◌, length, map, take, drop, get_or, add-one, length-take, Option, Some, None, inl, inr, refl, sym, ap, ◌∙◌, subst, ⊎_elim, arith, append-nil, append_assoc, All}
-use Rattle.std.specs.Prelude.{if◌then◌else◌, slice_index_or, nat_le, ◌&&◌}
-use Rattle.std.proofs.lemmas.Bool.{eqb-true, eq-eqb}
+use Rattle.std.proofs.Common.{◌≡◌, ◌≢◌, ℕ, suc, ◌+◌, ◌-◌, ◌<◌, ◌≤◌, ◌==◌, Bool, true, false, List, [], ◌∷◌, ◌++◌, length, map, take, drop, get_or, add-one, length-take, Option, Some, None, refl, sym, ap, ◌∙◌, subst, ⊎_elim, arith, append-nil, append_assoc, All}
+use Rattle.std.specs.Prelude.{if◌then◌else◌, slice_index_or}
+use Rattle.std.proofs.lemmas.Bool.{eq-eqb}
 use Rattle.std.proofs.lemmas.Bool.Decides.{eqb_tells, leb_tells}
 use Rattle.std.proofs.lemmas.List.Elements.{All-nil, All-cons, All-head, All-tail}
 use Rattle.std.proofs.Math.ListN.{drop_of_length-le}
@@ -18,7 +18,7 @@ use Rattle.trace_check.specs.declared.verdict.Rule.{Rule}
 use Rattle.trace_check.specs.declared.watch.Watch.{Watch}
 use Rattle.trace_check.specs.declared.watch.Watch.TheVariants as Watching
 use Rattle.trace_check.specs.Watch.{steps, rule_of}
-use Rattle.trace_check.proofs.Running.{runs, runs_append, IsGoing, allowed_going, going_allowed}
+use Rattle.trace_check.proofs.Running.{runs, IsGoing, going_allowed}
 use Rattle.trace_check.proofs.Ruling.{last_line, line_going, rule_is}
 
 -- ---- lines of a lane

@@ -1,24 +1,22 @@
 -- Wherever the checker stands, some lines complete what came so far.
-use Rattle.std.proofs.Common.{◌≡◌, ℕ, zero, suc, ◌+◌, ◌-◌, ◌<◌, ◌≤◌, Bool, true, false, List, [], ◌∷◌, ◌++◌, length, Option, Some, None, refl, sym, ap, subst, arith, leb-true}
+use Rattle.std.proofs.Common.{◌≡◌, ℕ, zero, suc, ◌+◌, ◌-◌, ◌<◌, ◌≤◌, Bool, true, false, List, [], ◌∷◌, Option, Some, refl, sym, subst, arith, leb-true}
 use Rattle.std.specs.Prelude.{if◌then◌else◌, nat_lt}
-use Rattle.std.proofs.lemmas.Bool.Decides.{nat_tests}
-use Rattle.ep_base.specs.Air.Heard.{Ask, Heard, Silence, Goes}
-use Rattle.ep_base.specs.Cards.Apdu.{is_command}
-use Rattle.ep_base.specs.Cards.TypeA.{AStage, Woken}
+use Rattle.ep_base.specs.Air.Heard.{Ask, Silence}
+use Rattle.ep_base.specs.Cards.TypeA.{Woken}
 use Rattle.ep_base.specs.Link.Block.{Deselect}
 use Rattle.ep_base.specs.Link.Parts.{Cut, cut, more}
 use Rattle.ep_base.specs.Link.LinkFrames.{LinkSetting, block_ask}
 use Rattle.ep_base.specs.Poll.Round.{Stage, Waking, Halting, WakingB, InA, InB, round_asks}
 use Rattle.trace_check.specs.Commands.{may_go_on}
-use Rattle.trace_check.specs.Held.{RoundAt, Tally, Parts}
+use Rattle.trace_check.specs.Held.{Tally, Parts}
 use Rattle.trace_check.specs.Lines.{Line}
 use Rattle.trace_check.specs.Allowed.{Sends, IsCut, NoLine}
 use Rattle.trace_check.specs.declared.watch.Watch.{Watch}
 use Rattle.trace_check.specs.declared.watch.Watch.TheVariants as Watching
-use Rattle.trace_check.specs.Watch.{asks, part_block, ack_block, fresh, lost, after_bad, hears, steps_settled}
+use Rattle.trace_check.specs.Watch.{asks, part_block, ack_block, fresh, lost, after_bad, hears}
 use Rattle.trace_check.proofs.Cuts.{to_rest_closed}
 use Rattle.trace_check.proofs.Futures.{SomeLeft, Fits, MayFit, rested}
-use Rattle.trace_check.proofs.Lawful.{Lawful, IfLawful}
+use Rattle.trace_check.proofs.Lawful.{Lawful}
 use Rattle.trace_check.proofs.Parting.{Rest, test_goes_on, some_left, first_inf, IsNext, is_next}
 use Rattle.trace_check.proofs.Settling.{Wide, next_by}
 use Rattle.trace_check.proofs.Stepping.{HasLeft, asked_back, steps_asked}

@@ -11,7 +11,7 @@ use Rattle.ep_base.specs.Poll.Round.{Stage, Waking, round_asks, round_hears}
 use Rattle.ep_base.specs.Poll.Polling.{card_in}
 use Rattle.ep_base.specs.Poll.Radio.{setting_of}
 use Rattle.trace_check.specs.Lines.{Line}
-use Rattle.trace_check.specs.Allowed.{Sends, RoundGoes, IsRound, CommandGoes, Takes, IsSpent, IsAnswered, Closes, LinkGoes, IsLink, IsCut, NoLine, ARound, ALink}
+use Rattle.trace_check.specs.Allowed.{Sends, RoundGoes, IsRound, CommandGoes, IsSpent, IsAnswered, LinkGoes, IsCut, NoLine, ARound, ALink}
 
 -- lines that can follow in a link with no command open, where these can follow the link
 pub record FromRest (After : List Line → Type 0) (set : LinkSetting) (r : Reader) (ls : List Line) : Type 0 where

@@ -1,10 +1,10 @@
 -- What can follow where the checker stands, and for which readers it stands.
-use Rattle.std.proofs.Common.{◌≡◌, ℕ, ◌+◌, ◌-◌, ◌<◌, Bool, true, false, List, [], ◌∷◌, ◌++◌, length, Option, Some, None}
-use Rattle.ep_base.specs.Air.Heard.{Ask, Heard, RoundTurn, Goes}
+use Rattle.std.proofs.Common.{◌≡◌, ℕ, ◌-◌, ◌<◌, Bool, true, false, List, [], ◌∷◌, ◌++◌, length, Option, Some, None}
+use Rattle.ep_base.specs.Air.Heard.{Goes}
 use Rattle.ep_base.specs.Cards.Apdu.{is_command}
-use Rattle.ep_base.specs.Link.Block.{Block, I, RAck, RNak, Deselect, Wtx, ReadBlock, Bad, Junk, Intact, is_bad, is_wtx, count}
+use Rattle.ep_base.specs.Link.Block.{I, RAck, RNak, Deselect, Wtx, ReadBlock, Bad, Junk, Intact, is_bad, is_wtx, count}
 use Rattle.ep_base.specs.Link.Parts.{cut}
-use Rattle.ep_base.specs.Link.ReaderEnd.{Reader, Phase, Idle, Sending, Receiving, ReaderTurn, Asks, asked}
+use Rattle.ep_base.specs.Link.ReaderEnd.{Reader, Idle, Sending, Receiving, Asks}
 use Rattle.ep_base.specs.Link.LinkFrames.{LinkSetting, block_ask}
 use Rattle.trace_check.specs.Lines.{Line}
 use Rattle.trace_check.specs.Allowed.{Sends as IsAsked, IsCut}

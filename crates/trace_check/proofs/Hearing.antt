@@ -1,9 +1,9 @@
 -- A hearing of a link takes the checker where it takes the readers for which it stands.
-use Rattle.std.proofs.Common.{◌≡◌, ℕ, suc, ◌+◌, ◌-◌, Bool, true, false, not, List, [], ◌∷◌, ◌++◌, length, Option, Some, None, refl, sym, ap, ◌∙◌, subst, length-append}
+use Rattle.std.proofs.Common.{◌≡◌, ℕ, suc, ◌+◌, ◌-◌, Bool, true, false, List, [], ◌∷◌, ◌++◌, length, Option, Some, None, refl, sym, ap, ◌∙◌, subst, length-append}
 use Rattle.std.specs.Prelude.{if◌then◌else◌, nat_lt, nat_le, ◌&&◌}
-use Rattle.ep_base.specs.Link.Block.{Block, I, RAck, RNak, Deselect, Wtx, ReadBlock, Bad, Junk, Intact, other, same, is_bad, is_wtx, is_nak, count}
-use Rattle.ep_base.specs.Link.Parts.{cut, more}
-use Rattle.ep_base.specs.Link.ReaderEnd.{Reader, Sending, Receiving, Idle, ReaderTurn, Asks, Gives, Spends, Breaks, question, asked, kept, toggled, is_fit, appended, takes, on_i, on_ack, on_bad, on_wtx, reader_hears}
+use Rattle.ep_base.specs.Link.Block.{I, RAck, RNak, Deselect, Wtx, ReadBlock, Bad, Junk, Intact, other, same, is_bad, is_wtx, is_nak, count}
+use Rattle.ep_base.specs.Link.Parts.{more}
+use Rattle.ep_base.specs.Link.ReaderEnd.{Reader, Sending, Receiving, Idle, ReaderTurn, Asks, Gives, Spends, Breaks, question, asked, kept, is_fit, appended, takes, on_bad, on_wtx, reader_hears}
 use Rattle.ep_base.specs.Link.LinkFrames.{LinkSetting}
 use Rattle.ep_base.specs.declared.limits.TheConstants.{RESPONSE, WAITS}
 use Rattle.trace_check.specs.Lines.{Line}
@@ -13,9 +13,9 @@ use Rattle.trace_check.specs.declared.watch.Watch.TheVariants as Watching
 use Rattle.trace_check.specs.Held.{RoundAt, Tally, Parts}
 use Rattle.trace_check.specs.declared.latest.Latest.{Latest}
 use Rattle.trace_check.specs.declared.latest.Latest.TheVariants.{Plain, Lost, Waits}
-use Rattle.trace_check.specs.Watch.{block_by, part_block, ack_block, fresh, lost, waits, again, is_lost, fits, received, takes_part, after_bad, after_wtx, taken, answered, hears_sending, hears_receiving}
+use Rattle.trace_check.specs.Watch.{block_by, part_block, ack_block, fresh, lost, waits, again, is_lost, fits, received, takes_part, after_bad, after_wtx, hears_receiving}
 use Rattle.trace_check.proofs.Cuts.{FromTurn}
-use Rattle.trace_check.proofs.Futures.{latest_of, Matches, GoesOn, Left, sending, receiving, SomeSending, SomeReceiving, EachSending, EachReceiving, MayFollow, MayFit}
+use Rattle.trace_check.proofs.Futures.{latest_of, Matches, Left, sending, receiving, MayFollow, MayFit}
 
 -- ---- what is asked
 

@@ -1,20 +1,19 @@
 -- What stays true of a lane that the checker watches.
-use Rattle.std.proofs.Common.{◌≡◌, ℕ, suc, ◌+◌, ◌-◌, ◌==◌, ◌&&◌, Bool, true, false, List, [], ◌∷◌, ◌++◌, length, Option, Some, None, refl, sym, subst}
+use Rattle.std.proofs.Common.{◌≡◌, ℕ, suc, ◌+◌, ◌-◌, ◌==◌, ◌&&◌, Bool, true, false, List, [], ◌++◌, length, Option, Some, None, refl}
 use Rattle.std.specs.Prelude.{if◌then◌else◌, nat_lt, nat_le}
 use Rattle.std.proofs.lemmas.Bool.{and_parts}
 use Rattle.ep_base.specs.declared.air.Wave.{Wave}
 use Rattle.ep_base.specs.declared.limits.TheConstants.{WAITS}
-use Rattle.ep_base.specs.Air.Heard.{Heard, RoundEnd, Empty, Collision, Unsupported, Broken, Found, RoundTurn, Goes, Ends}
-use Rattle.ep_base.specs.Link.Block.{ReadBlock, Bad, Junk, Intact, I, RAck, RNak, Deselect, Wtx, other, same}
+use Rattle.ep_base.specs.Air.Heard.{Heard, Empty, Collision, Unsupported, Broken, Found, RoundTurn, Goes, Ends}
+use Rattle.ep_base.specs.Link.Block.{ReadBlock, Bad, Junk, Intact, I, RAck, RNak, Deselect, Wtx, same}
 use Rattle.ep_base.specs.Link.LinkFrames.{LinkSetting, heard_block}
 use Rattle.ep_base.specs.Poll.Round.{Stage, round_hears}
-use Rattle.ep_base.specs.Poll.Polling.{card_in}
 use Rattle.trace_check.specs.Commands.{may_go_on}
-use Rattle.trace_check.specs.Held.{RoundAt, Tally, Parts, Inf}
+use Rattle.trace_check.specs.Held.{Tally, Parts, Inf}
 use Rattle.trace_check.specs.Lines.{Line}
 use Rattle.trace_check.specs.declared.watch.Watch.{Watch}
 use Rattle.trace_check.specs.declared.watch.Watch.TheVariants as Watching
-use Rattle.trace_check.specs.Watch.{asks, part_in, is_part, fresh, begins, settles_rest, settles_next, settles, after_end, after_round, lost, waits, again, is_lost, fits, received, takes_part, after_bad, after_wtx, taken, answered, hears_sending, hears_receiving, hears, is_frame, is_wait, steps_settled, steps_by, steps}
+use Rattle.trace_check.specs.Watch.{asks, part_in, is_part, fresh, settles_rest, settles_next, settles, after_round, lost, waits, again, is_lost, fits, received, takes_part, taken, answered, hears_sending, hears_receiving, hears, is_frame, is_wait, steps_settled, steps_by, steps}
 use Rattle.trace_check.proofs.Parting.{some_left}
 use Rattle.trace_check.proofs.Settling.{Wide, IsWide}
 use Rattle.trace_check.proofs.Sizing.{Sized, sized, either}

@@ -15,8 +15,8 @@ use Rattle.trace_check.proofs.Cuts.{Closed, Begun, from_rest}
 use Rattle.trace_check.proofs.Futures.{FromRoundAt, Follows, MayFollow, rested}
 use Rattle.trace_check.proofs.Settling.{OpensBy, Wide}
 use Rattle.trace_check.proofs.Stepping.{RoundsOn, steps_asked}
-use Rattle.trace_check.proofs.Lawful.{Lawful, IfLawful, steps_lawful}
-use Rattle.trace_check.proofs.Running.{then_steps, runs, runs_append, IsGoing, steps_forward, runs_forward, cut_forward, runs_lawful, going_allowed}
+use Rattle.trace_check.proofs.Lawful.{IfLawful}
+use Rattle.trace_check.proofs.Running.{runs, runs_append, IsGoing, runs_forward, cut_forward, runs_lawful, going_allowed}
 
 -- a link is open
 abbrev pub Opened : Option Watch → Type 0

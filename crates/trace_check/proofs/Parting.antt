@@ -1,6 +1,6 @@
 -- Which commands begin with some parts.
 use Rattle.std.proofs.Common.{◌≡◌, ℕ, ◌+◌, ◌-◌, ◌<◌, ◌≤◌, ◌==◌, nat_lt, le-leb, leb-true, Bool, true, false, List, [], ◌∷◌, ◌++◌, length, take, drop, refl, sym, ap, ◌∙◌, subst, ⊎_elim, arith, append_assoc, length-append, length-drop, length-take}
-use Rattle.std.specs.Prelude.{nat_le, ◌&&◌, ◌||◌, slice_index, if◌then◌else◌}
+use Rattle.std.specs.Prelude.{nat_le, ◌&&◌, ◌||◌, slice_index}
 use Rattle.std.proofs.Math.ListN.{replicate}
 use Rattle.std.proofs.Math.Seq.{take-append_seam, drop-append_seam}
 use Rattle.std.proofs.lemmas.List.{length-replicate, get_or_append_left, take-append-drop}
@@ -12,9 +12,9 @@ use Rattle.ep_base.specs.Link.Parts.{Cut, cut, before_parts}
 use Rattle.ep_base.specs.Link.Parts as Cutting
 use Rattle.block_pcb.proofs.Cuts.{cut_last, cut_more}
 use Rattle.trace_check.specs.Commands.{is_before, may_go_on}
-use Rattle.trace_check.specs.Held.{Parts, Inf}
+use Rattle.trace_check.specs.Held.{Inf}
 use Rattle.trace_check.specs.Watch.{is_part}
-use Rattle.trace_check.proofs.Futures.{GoesOn, Left, SomeLeft}
+use Rattle.trace_check.proofs.Futures.{Left, SomeLeft}
 
 -- a command with this many bytes, and this fifth one
 abbrev has_length : (len fifth : ℕ) → Bool

@@ -1,9 +1,8 @@
 -- The rule that the checker names is the first that applies.
-use Rattle.std.proofs.Common.{◌≡◌, ◌≢◌, ◌⊎◌, ℕ, ◌==◌, ◌&&◌, Bool, true, false, List, [], ◌∷◌, ◌++◌, Option, Some, None, refl, sym, ap, ◌∙◌, subst}
+use Rattle.std.proofs.Common.{◌≡◌, ◌≢◌, ℕ, ◌==◌, ◌&&◌, Bool, true, false, List, [], ◌∷◌, ◌++◌, Option, Some, None, refl, sym, ap, ◌∙◌, subst}
 use Rattle.std.specs.Prelude.{if◌then◌else◌}
-use Rattle.std.proofs.lemmas.Bool.{eqb-true, eq-eqb}
-use Rattle.ep_base.specs.declared.air.Wave.{Wave}
-use Rattle.ep_base.specs.Air.Heard.{Ask, Heard, Silence}
+use Rattle.std.proofs.lemmas.Bool.{eq-eqb}
+use Rattle.ep_base.specs.Air.Heard.{Ask, Silence}
 use Rattle.trace_check.specs.Held.{RoundAt}
 use Rattle.trace_check.specs.Lines.{Line}
 use Rattle.trace_check.specs.Allowed.{IsAllowed, IsOpenAfter}

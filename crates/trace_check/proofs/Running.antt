@@ -1,20 +1,17 @@
 -- Lines are allowed exactly where the checker takes each of them.
-use Rattle.std.proofs.Common.{◌≡◌, ◌≢◌, ◌⊎◌, ℕ, Bool, true, false, List, [], ◌∷◌, ◌++◌, Option, Some, None, inl, inr, refl, sym, ap, ◌∙◌, subst, ⊎_elim, append-nil, append_assoc}
+use Rattle.std.proofs.Common.{◌≡◌, ℕ, Bool, true, false, List, [], ◌∷◌, ◌++◌, Option, Some, None, refl, sym, subst, ⊎_elim}
 use Rattle.std.specs.Prelude.{if◌then◌else◌}
 use Rattle.ep_base.specs.declared.air.Wave.{Wave}
-use Rattle.ep_base.specs.Air.Heard.{Heard, Activated, RoundEnd, Empty, Collision, Unsupported, Broken, Found, RoundTurn, Goes, Ends}
 use Rattle.ep_base.specs.Link.LinkFrames.{LinkSetting}
-use Rattle.ep_base.specs.Poll.Round.{Stage, Waking, round_asks, round_hears}
-use Rattle.ep_base.specs.Poll.Polling.{card_in}
-use Rattle.ep_base.specs.Poll.Radio.{setting_of}
+use Rattle.ep_base.specs.Poll.Round.{round_asks, round_hears}
 use Rattle.trace_check.specs.Held.{RoundAt, Inf}
 use Rattle.trace_check.specs.Lines.{Line}
-use Rattle.trace_check.specs.Allowed.{Sends, IsCut, NoLine, IsAllowed}
+use Rattle.trace_check.specs.Allowed.{Sends, IsCut, IsAllowed}
 use Rattle.trace_check.specs.declared.watch.Watch.{Watch}
 use Rattle.trace_check.specs.declared.watch.Watch.TheVariants as Watching
-use Rattle.trace_check.specs.Watch.{part_in, is_part, fresh, begins, settles_rest, settles_next, settles, after_round, steps_settled, steps_by, steps}
-use Rattle.trace_check.proofs.Cuts.{FromRound, from_cut}
-use Rattle.trace_check.proofs.Futures.{FromRoundAt, Follows, MayFollow, Fits, MayFit}
+use Rattle.trace_check.specs.Watch.{part_in, is_part, fresh, settles_rest, settles_next, settles, steps_by, steps}
+use Rattle.trace_check.proofs.Cuts.{from_cut}
+use Rattle.trace_check.proofs.Futures.{FromRoundAt, Follows, MayFollow, MayFit}
 use Rattle.trace_check.proofs.Settling.{OpensBy, settles_forward, settles_back}
 use Rattle.trace_check.proofs.Stepping.{RoundsOn, IsSettled, asked_forward, asked_back, round_after, follows_round}
 use Rattle.trace_check.proofs.Lawful.{Lawful, IfLawful, is_wide, has_left, settles_lawful, steps_lawful}

@@ -1,9 +1,9 @@
 -- A hearing while a command is sent takes the checker where it takes the readers for which it stands.
-use Rattle.std.proofs.Common.{◌≡◌, ℕ, suc, ◌+◌, ◌-◌, Bool, true, false, List, [], ◌∷◌, ◌++◌, length, Option, Some, None, refl, sym, ap, ◌∙◌, subst}
+use Rattle.std.proofs.Common.{◌≡◌, ℕ, suc, ◌-◌, Bool, true, false, List, [], ◌∷◌, ◌++◌, length, Option, Some, None, refl, sym, ap, ◌∙◌, subst}
 use Rattle.std.specs.Prelude.{if◌then◌else◌, nat_lt, nat_le}
-use Rattle.ep_base.specs.Link.Block.{Block, I, RAck, RNak, Deselect, Wtx, ReadBlock, Bad, Junk, Intact, other, same, is_nak}
+use Rattle.ep_base.specs.Link.Block.{I, RAck, RNak, Deselect, Wtx, ReadBlock, Bad, Junk, Intact, same, is_nak}
 use Rattle.ep_base.specs.Link.Parts.{cut}
-use Rattle.ep_base.specs.Link.ReaderEnd.{Reader, Sending, ReaderTurn, Asks, Breaks, asked, kept, on_i, on_ack, on_bad, on_wtx, reader_hears}
+use Rattle.ep_base.specs.Link.ReaderEnd.{Reader, Sending, ReaderTurn, Asks, Breaks, asked, kept, on_i, on_ack, reader_hears}
 use Rattle.ep_base.specs.declared.limits.TheConstants.{WAITS}
 use Rattle.trace_check.specs.Lines.{Line}
 use Rattle.trace_check.specs.Allowed.{IsCut}
@@ -12,7 +12,7 @@ use Rattle.trace_check.specs.declared.watch.Watch.TheVariants as Watching
 use Rattle.trace_check.specs.Held.{RoundAt, Tally, Parts}
 use Rattle.trace_check.specs.Watch.{lost, waits, again, is_lost, answered, taken, hears_sending}
 use Rattle.trace_check.proofs.Cuts.{FromTurn}
-use Rattle.trace_check.proofs.Futures.{Matches, Left, SomeLeft, sending, EachSending, MayFollow, MayFit}
+use Rattle.trace_check.proofs.Futures.{Matches, Left, SomeLeft, sending, MayFollow, MayFit}
 use Rattle.trace_check.proofs.Hearing.{sends_part, nak_by, match_lost, match_waits, match_again, alike, takes_forward, takes_back, bad_forward, bad_back, wtx_forward, wtx_back}
 
 -- ---- forward

@@ -1,17 +1,17 @@
 -- A frame settles what is asked as the definitions have it.
-use Rattle.std.proofs.Common.{◌≡◌, ℕ, ◌+◌, ◌-◌, ◌<◌, ◌≤◌, Bool, true, false, List, [], ◌∷◌, ◌++◌, length, Option, Some, None, refl, sym, ap, ◌∙◌, subst, ⊎_elim, arith}
+use Rattle.std.proofs.Common.{◌≡◌, ℕ, ◌-◌, ◌<◌, ◌≤◌, Bool, true, false, List, [], ◌∷◌, ◌++◌, length, Option, Some, None, refl, sym, ap, ◌∙◌, subst, ⊎_elim, arith}
 use Rattle.std.specs.Prelude.{if◌then◌else◌}
 use Rattle.ep_base.specs.declared.air.CardKind.{CardKind}
 use Rattle.ep_base.specs.declared.air.CardKind.TheVariants as kinds
 use Rattle.ep_base.specs.declared.air.Wave.{Wave}
 use Rattle.ep_base.specs.Air.Frame.{sealed, opened}
-use Rattle.ep_base.specs.Air.Heard.{Goes, RoundTurn, same_wave, wave_of_kind}
+use Rattle.ep_base.specs.Air.Heard.{same_wave, wave_of_kind}
 use Rattle.ep_base.specs.Cards.Apdu.{is_command}
 use Rattle.ep_base.specs.Link.Block.{Block, I, Deselect}
 use Rattle.ep_base.specs.Link.Parts.{Cut, cut, more}
-use Rattle.ep_base.specs.Link.ReaderEnd.{Sending, ReaderTurn, Asks, begin}
+use Rattle.ep_base.specs.Link.ReaderEnd.{Sending, Asks}
 use Rattle.ep_base.specs.Link.LinkFrames.{LinkSetting, block_ask}
-use Rattle.ep_base.specs.Link.Spelling.{Read, Reads, spelled, is_block, read_block}
+use Rattle.ep_base.specs.Link.Spelling.{Reads, spelled, is_block}
 use Rattle.ep_base.specs.Poll.Round.{Waking}
 use Rattle.rf_frame.proofs.Opening.{opened_sealed}
 use Rattle.block_pcb.proofs.Spellings.{read_spelled}
@@ -21,8 +21,8 @@ use Rattle.trace_check.specs.declared.watch.Watch.{Watch}
 use Rattle.trace_check.specs.declared.watch.Watch.TheVariants as Watching
 use Rattle.trace_check.specs.Held.{RoundAt, Inf}
 use Rattle.trace_check.specs.Watch.{part_read, part_opened, part_in, is_part, fresh, begins, settles_rest, settles_next, settles}
-use Rattle.trace_check.proofs.Cuts.{FromRest, FromTurn, FromRound, Closed, Begun, from_rest, from_cut, to_cut, to_rest_closed, to_rest_begun}
-use Rattle.trace_check.proofs.Futures.{FromNext, FromClosing, FromRoundAt, EachSending, Follows, MayFollow, Fits, MayFit, rested, sending_next}
+use Rattle.trace_check.proofs.Cuts.{FromRest, FromTurn, Closed, Begun, from_rest, to_cut, to_rest_closed, to_rest_begun}
+use Rattle.trace_check.proofs.Futures.{FromNext, FromClosing, EachSending, Follows, MayFollow, Fits, MayFit, rested, sending_next}
 use Rattle.trace_check.proofs.Hearing.{match_fresh}
 use Rattle.trace_check.proofs.Parting.{first_inf, IsNext, is_next, Whole, whole_by}
 

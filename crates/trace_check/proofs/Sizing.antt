@@ -1,6 +1,6 @@
 -- The frame size of the card with which a round ends.
-use Rattle.std.proofs.Common.{◌≡◌, ℕ, ◌+◌, ◌==◌, nat_lt, ◌&&◌, Bool, true, false, List, length, Option, Some, None}
-use Rattle.std.specs.Prelude.{slice_index, Result, Ok, Err, not, ◌%◌, ◌/◌, if◌then◌else◌}
+use Rattle.std.proofs.Common.{ℕ, ◌+◌, ◌==◌, nat_lt, ◌&&◌, Bool, true, false, List, length, Option, Some, None}
+use Rattle.std.specs.Prelude.{slice_index, Result, Ok, not, ◌%◌, ◌/◌, if◌then◌else◌}
 use Rattle.ep_base.specs.declared.air.Wave.{Wave}
 use Rattle.ep_base.specs.declared.air.Wave.TheVariants.{ABare, A, B}
 use Rattle.ep_base.specs.declared.activation.Ats.{Ats}
@@ -10,7 +10,7 @@ use Rattle.ep_base.specs.declared.activation.AtqbFault.{AtqbFault}
 use Rattle.ep_base.specs.Air.FrameSize.{frame_size}
 use Rattle.ep_base.proofs.Sizes.{IsSize, frame_sized}
 use Rattle.ep_base.specs.Cards.Activation.{ats, atqb, bit, interface_bytes, ats_fwi}
-use Rattle.ep_base.specs.Air.Heard.{Heard, RoundEnd, Empty, Collision, Unsupported, Broken, Found, RoundTurn, Goes, Ends, RoundAnswer, Says, Fails, awaited, on_answer, says_opened, is_silent, same_wave, Silence, Noise, Overlap, Frame}
+use Rattle.ep_base.specs.Air.Heard.{Heard, Empty, Collision, Unsupported, Broken, Found, RoundTurn, Goes, Ends, RoundAnswer, Fails, awaited, on_answer, says_opened, is_silent, same_wave, Silence, Noise, Overlap, Frame}
 use Rattle.ep_base.specs.Air.Frame.{opened}
 use Rattle.ep_base.specs.Cards.TypeA.{AStage, Woken, Level, Select, Complete, is_level, continues, a_says, after_sak, after_ats}
 use Rattle.ep_base.specs.Cards.TypeB.{b_says, after_atqb}

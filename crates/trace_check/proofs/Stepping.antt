@@ -1,15 +1,13 @@
 -- A line takes the checker on exactly where lines that can be cut go on with it.
-use Rattle.std.proofs.Common.{◌≡◌, ◌≢◌, ℕ, ◌+◌, ◌-◌, ◌==◌, ◌&&◌, Bool, true, false, List, [], ◌∷◌, ◌++◌, length, Option, Some, None, refl, sym, ap, ◌∙◌, subst, arith}
+use Rattle.std.proofs.Common.{◌≡◌, ℕ, ◌-◌, ◌==◌, ◌&&◌, Bool, true, false, List, [], ◌∷◌, Option, Some, None, refl, sym, ap, ◌∙◌, subst}
 use Rattle.std.specs.Prelude.{if◌then◌else◌}
 use Rattle.std.proofs.lemmas.Bool.{and_parts, eqb-true, eq-eqb}
-use Rattle.std.specs.Cmp.Lexicographic.{pointwise}
 use Rattle.ep_base.specs.declared.air.Wave.{Wave}
 use Rattle.ep_base.specs.declared.air.Wave.TheVariants.{AShort, ABare, A, B}
-use Rattle.ep_base.specs.Air.Heard.{Ask, Heard, Activated, RoundTurn, RoundEnd, Goes, Ends, same_wave}
+use Rattle.ep_base.specs.Air.Heard.{Ask, Activated, RoundTurn, Goes, Ends, same_wave}
 use Rattle.ep_base.specs.Cards.Apdu.{same_bytes}
-use Rattle.ep_base.specs.Link.Block.{Block, ReadBlock}
-use Rattle.ep_base.specs.Link.ReaderEnd.{asked}
-use Rattle.ep_base.specs.Link.LinkFrames.{LinkSetting, block_ask, heard_block}
+use Rattle.ep_base.specs.Link.Block.{Block}
+use Rattle.ep_base.specs.Link.LinkFrames.{block_ask, heard_block}
 use Rattle.ep_base.specs.Link.Dialogue.{opened_reader}
 use Rattle.ep_base.specs.Poll.Round.{Stage, round_asks, round_hears}
 use Rattle.ep_base.specs.Poll.Polling.{card_in}
@@ -18,10 +16,10 @@ use Rattle.trace_check.specs.Lines.{Line}
 use Rattle.trace_check.specs.Allowed.{Sends, IsCut}
 use Rattle.trace_check.specs.declared.watch.Watch.{Watch}
 use Rattle.trace_check.specs.declared.watch.Watch.TheVariants as Watching
-use Rattle.trace_check.specs.Held.{RoundAt, Tally, Parts}
-use Rattle.trace_check.specs.Watch.{asks, hears, after_end, after_round, hears_sending, hears_receiving, part_block, ack_block, is_frame, is_wait, steps_settled}
-use Rattle.trace_check.proofs.Cuts.{FromRest, FromTurn, FromRound, AfterEnd}
-use Rattle.trace_check.proofs.Futures.{FromRoundAt, FromClosing, Matches, SomeLeft, SomeSending, SomeReceiving, EachSending, EachReceiving, Follows, MayFollow, Fits, MayFit, sending, receiving}
+use Rattle.trace_check.specs.Held.{RoundAt}
+use Rattle.trace_check.specs.Watch.{asks, hears, after_end, after_round, hears_receiving, part_block, ack_block, is_frame, is_wait, steps_settled}
+use Rattle.trace_check.proofs.Cuts.{FromRest, FromRound, AfterEnd}
+use Rattle.trace_check.proofs.Futures.{FromRoundAt, SomeLeft, Follows, MayFollow, Fits, MayFit}
 use Rattle.trace_check.proofs.Hearing.{sends_part, sends_ack, receiving_forward, receiving_back}
 use Rattle.trace_check.proofs.Sendings.{HearsEach, sending_forward, sending_back}
 

@@ -12,7 +12,7 @@ use Rattle.ep_base.specs.Poll.Polling.{card_in}
 use Rattle.ep_base.specs.Poll.Radio.{setting_of}
 use Rattle.ep_base.specs.declared.limits.TheConstants.{RESPONSE, WAITS}
 use Rattle.trace_check.specs.Commands.{may_go_on}
-use Rattle.trace_check.specs.Held.{RoundAt, Tally, Parts, Inf}
+use Rattle.trace_check.specs.Held.{Tally, Parts, Inf}
 use Rattle.trace_check.specs.declared.latest.Latest.{Latest}
 use Rattle.trace_check.specs.declared.latest.Latest.TheVariants.{Plain, Lost, Waits}
 use Rattle.trace_check.specs.declared.watch.Watch.{Watch}

@@ -1,4 +1,4 @@
-use Rattle.std.proofs.Common.{rules, ◌≡◌, ◌<◌, ◌≤◌, length, map, take, subst, refl, ap, arith}
+use Rattle.std.proofs.Common.{◌≡◌, map, take, subst, refl, ap, arith}
 use Rattle.ep_claim.specs.Text.TraceLine.{TraceLine}
 use Rattle.std.proofs.Common.{List}
 use Rattle.trace_io.specs.declared.line.TraceLine.{TraceLine as Declared}

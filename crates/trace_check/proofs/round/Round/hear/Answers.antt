@@ -1,4 +1,4 @@
-use Rattle.std.proofs.Common.{rules, ◌≡◌, ℕ, List, Option, Some, None, refl, ap, ◌∙◌, subst}
+use Rattle.std.proofs.Common.{rules, ◌≡◌, ℕ, Option, Some, None, ap, ◌∙◌, subst}
 use Rattle.std.specs.Option.{IsSome}
 use Rattle.ep_base.specs.Air.Heard as air
 use Rattle.ep_base.specs.Air.Heard.{RoundTurn, Goes, Ends, end_of}
@@ -6,7 +6,7 @@ use Rattle.ep_base.specs.Poll.Round.{Stage, round_hears}
 use Rattle.ep_base.specs.Poll.Polling.{card_in}
 use Rattle.rf_frame.specs.Meaning.{heard_of, round_end_of, maybe_end}
 use Rattle.rf_frame.specs.declared.cards.RoundEnd.{RoundEnd}
-use Rattle.poll_activate.specs.Poll.{PollState, turn_in}
+use Rattle.poll_activate.specs.Poll.{turn_in}
 use Rattle.trace_check.specs.Held.{stage_in}
 use Rattle.trace_check.specs.Watch.{after_end, after_round}
 use Rattle.trace_check.proofs.round.Round.hear.Goals as goal
