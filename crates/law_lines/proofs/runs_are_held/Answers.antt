@@ -1,0 +1,6 @@
+use Rattle.law_lines.proofs.Sending.{card_fits}
+use Rattle.law_lines.proofs.Octets.{bytes_nil}
+use Rattle.law_lines.proofs.runs_are_held.Goals as goal
+
+pub returns : goal.returns
+returns c = ?
