@@ -1,3 +1,4 @@
+pub mod Answering
 pub mod Imaging
 pub mod Octets
 pub mod Sending
