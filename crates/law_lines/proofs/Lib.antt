@@ -1,4 +1,5 @@
 pub mod Answering
+pub mod Fielding
 pub mod Imaging
 pub mod Octets
 pub mod Sending
