@@ -1,3 +1,4 @@
+use Rattle.law_lines.proofs.Rounding.{round_good}
 use Rattle.law_lines.proofs.Fielding.{field_holds}
 use Rattle.law_lines.proofs.Answering.{outside_comes}
 use Rattle.law_lines.proofs.Sending.{card_fits}
