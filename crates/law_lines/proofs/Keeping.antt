@@ -159,7 +159,7 @@ module _ (fsdi : ℕ) (talk : Talk) (asks : AsksBytes talk) where
 -- ---- what is asked
 
 pow_most : (fwi : ℕ) → fwi ≤ 14 → 2 ^ fwi ≤ 16384
-pow_most fwi h = pow-le-pow_right {2} (omega arith) {fwi} {14} h
+pow_most fwi h = pow-le-pow_right {n = 2} (omega arith) {i = fwi} {j = 14} h
 
 waits_most : (fwi : ℕ) (b : Block) → fwi ≤ 14 → wait_of fwi b ≤ 16384
 waits_most fwi (I k ch inf) h = pow_most fwi h

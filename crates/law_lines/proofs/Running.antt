@@ -26,7 +26,7 @@ jobs_all P first (jobs ∷ rest) lane all =
     (λ d. jobs_all P (first + 1) rest lane (All-tail (All P) jobs rest all))
 
 -- there is one of them only in a lane of the run
-IsIn : (first : ℕ) (lanes : List (List Job)) (lane : ℕ) → List Job → Type 0
+abbrev IsIn : (first : ℕ) (lanes : List (List Job)) (lane : ℕ) → List Job → Type 0
 IsIn first lanes lane [] = Unit {0}
 IsIn first lanes lane (j ∷ js) = (first ≤ lane) × (lane < first + length lanes)
 
