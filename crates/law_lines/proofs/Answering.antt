@@ -1,10 +1,9 @@
 -- What a card outside the block protocol answers, and where it stands then.
-use Rattle.std.proofs.Common.{◌≡◌, ℕ, ◌+◌, ◌-◌, ◌*◌, ◌/◌, ◌<◌, ◌≤◌, ◌==◌, ◌&&◌, Bool, true, false, List, [], ◌∷◌, ◌++◌, length, take, drop, Option, Some, None, refl, sym, ap, ◌∙◌, subst, arith, length-append, length-drop, length-take, bit_xor}
+use Rattle.std.proofs.Common.{◌≡◌, ℕ, ◌+◌, ◌-◌, ◌*◌, ◌/◌, ◌<◌, ◌≤◌, ◌==◌, ◌&&◌, Bool, true, false, List, [], ◌∷◌, ◌++◌, length, take, drop, Option, Some, None, refl, sym, ap, ◌∙◌, arith, length-append, length-drop, length-take, bit_xor}
 use Rattle.std.specs.Prelude.{slice_index, not, if◌then◌else◌}
 use Rattle.std.specs.Str.{bytes_eq}
 use Rattle.std.proofs.lemmas.Bool.{and_parts}
 use Rattle.hex.specs.Hex.{IsBytes}
-use Rattle.ep_base.specs.declared.limits.TheConstants.{FRAME}
 use Rattle.ep_base.specs.declared.air.Wave.{Wave}
 use Rattle.ep_base.specs.declared.air.Wave.TheVariants.{AShort, ABare, A, B}
 use Rattle.ep_base.specs.Air.Frame.{opened}
@@ -13,7 +12,7 @@ use Rattle.ep_base.proofs.Sizes.{IsSize, frame_sized}
 use Rattle.ep_base.specs.Air.Heard.{Sent, framed, same_wave, CardHear, Mute, Sends, Opens, Passes}
 use Rattle.ep_base.specs.Cards.Activation.{bit}
 use Rattle.ep_base.specs.Cards.TypeA.{APlan, AState, Idle, Ready, Active, Protocol, Halted, wupa, hlta, sel, bcc, levels, level_bytes, level_part, atqa, sak_of, ats_of, after_select, a_select, a_ready, is_rats, a_active, a_other, a_takes, a_opened, a_card}
-use Rattle.ep_base.specs.Cards.TypeB.{BPlan, BState, BIdle, BReady, BProtocol, wupb, atqb_of, is_attrib, b_ready, b_other, b_takes, b_opened, b_card}
+use Rattle.ep_base.specs.Cards.TypeB.{BPlan, BState, BIdle, BReady, BProtocol, wupb, atqb_of, is_attrib, b_other, b_takes, b_opened, b_card}
 use Rattle.ep_base.specs.Cards.Field.{Outside, OfA, OfB, outside_after, outside_reply}
 use Rattle.ep_base.specs.Cards.Inside.{a_inside, b_inside, is_inside}
 use Rattle.ep_base.specs.Cards.Lawful.{IsUid, Four, Seven, Ten, IsFour, Bytes, IsFormed}
@@ -21,7 +20,7 @@ use Rattle.ep_claim.specs.Text.TraceLine.{answer_wave}
 use Rattle.ep_claim.specs.Text.TraceForm.{HoldsFrame}
 use Rattle.law_round.proofs.Presenting.{either, when}
 use Rattle.law_lines.specs.Bytes.{APlanOfBytes, BPlanOfBytes, OutsideOfBytes}
-use Rattle.law_lines.proofs.Octets.{bytes_nil, bytes_cons, bytes_append, bytes_take, bytes_drop, bytes_one, bytes_two, byte_xor, sealed_holds}
+use Rattle.law_lines.proofs.Octets.{bytes_cons, bytes_append, bytes_take, bytes_drop, bytes_one, bytes_two, byte_xor, sealed_holds}
 
 pub wave_is : (w v : Wave) → same_wave w v ≡ true → w ≡ v
 wave_is AShort AShort e = refl
@@ -95,7 +94,7 @@ module _ (p : APlan) (good : GoodA p) where
   atqa_holds : HoldsFrame (framed ABare (atqa p.uid)).bytes
   atqa_holds = (
     bytes_two (if levels p.uid == 1 then 0x04 else (if levels p.uid == 2 then 0x44 else 0x84)) 0
-    (either (λ b. b < 256) (levels p.uid == 1) 0x04 _ (omega arith) (either (λ b. b < 256) (levels p.uid == 2) 0x44 0x84 (omega arith) (omega arith))) (omega arith),
+        (either (λ b. b < 256) (levels p.uid == 1) 0x04 _ (omega arith) (either (λ b. b < 256) (levels p.uid == 2) 0x44 0x84 (omega arith) (omega arith))) (omega arith),
     omega arith,
     omega arith,
   )

@@ -1,17 +1,17 @@
 -- The reader's end of a link: it asks blocks of bytes alone, whatever bytes it hears.
-use Rattle.std.proofs.Common.{◌≡◌, ℕ, zero, suc, ◌+◌, ◌-◌, ◌*◌, ◌/◌, ◌%◌, ◌^◌, ◌<◌, ◌≤◌, ◌&&◌, nat_lt, leb-true, Bool, true, false, List, [], ◌∷◌, ◌++◌, length, Option, Some, None, arith, min}
+use Rattle.std.proofs.Common.{ℕ, ◌%◌, ◌≤◌, ◌&&◌, nat_lt, leb-true, Bool, true, false, List, [], ◌∷◌, ◌++◌, length, Option, Some, None, arith}
 use Rattle.std.specs.Prelude.{nat_le, if◌then◌else◌}
 use Rattle.std.proofs.lemmas.Bool.{and_parts}
 use Rattle.hex.specs.Hex.{IsBytes}
-use Rattle.ep_base.specs.declared.limits.TheConstants.{RESPONSE, WAITS}
+use Rattle.ep_base.specs.declared.limits.TheConstants.{WAITS}
 use Rattle.ep_base.specs.declared.air.CardKind.{CardKind}
 use Rattle.ep_base.specs.Air.Heard.{Heard, Silence, Noise, Overlap, Frame, same_wave, wave_of_kind}
 use Rattle.ep_base.specs.Air.Frame.{opened}
-use Rattle.ep_base.specs.Link.Block.{Block, I, RAck, RNak, Deselect, Wtx, ReadBlock, Bad, Junk, Intact, other, same, is_bad, is_wtx, is_nak, count}
-use Rattle.ep_base.specs.Link.Parts.{cut, more}
-use Rattle.ep_base.specs.Link.ReaderEnd.{Phase, Idle, Sending, Receiving, Reader, question, asked, ReaderTurn, Asks, Gives, Spends, Breaks, kept, toggled, is_fit, appended, takes, on_i, on_ack, on_bad, on_wtx, reader_hears, begin}
-use Rattle.ep_base.specs.Link.Spelling.{Announced, AnI, AnAck, ANak, ADeselect, AWtx, Nothing, pcb_kind, pcb_fault, Read, Reads, Refuses, read_bare, read_wtx_byte, read_wtx, read_after, read_block}
-use Rattle.ep_base.specs.Link.LinkFrames.{LinkSetting, wait_of, intact, heard_opened, heard_block}
+use Rattle.ep_base.specs.Link.Block.{Block, I, RAck, RNak, Deselect, Wtx, ReadBlock, Bad, Junk, Intact, same, is_bad, is_wtx, is_nak, count}
+use Rattle.ep_base.specs.Link.Parts.{more}
+use Rattle.ep_base.specs.Link.ReaderEnd.{Phase, Idle, Sending, Receiving, Reader, question, asked, ReaderTurn, Asks, Gives, Spends, Breaks, kept, toggled, is_fit, appended, takes, on_i, on_ack, reader_hears, begin}
+use Rattle.ep_base.specs.Link.Spelling.{Announced, AnI, AnAck, ANak, ADeselect, AWtx, Nothing, pcb_kind, Read, Reads, Refuses, read_bare, read_wtx_byte, read_wtx, read_after, read_block}
+use Rattle.ep_base.specs.Link.LinkFrames.{LinkSetting, intact, heard_opened, heard_block}
 use Rattle.ep_base.specs.Link.Carry.{turn_on}
 use Rattle.law_round.proofs.Presenting.{either, when}
 use Rattle.law_lines.proofs.Octets.{bytes_nil, bytes_tail, bytes_append, Says, opened_says}

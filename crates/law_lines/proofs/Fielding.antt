@@ -1,31 +1,31 @@
 -- What a reader hears of a field of cards made of bytes, which it stays.
-use Rattle.std.proofs.Common.{◌≡◌, ℕ, ◌+◌, ◌≤◌, ◌&&◌, nat_lt, Bool, true, false, List, [], ◌∷◌, ◌++◌, length, Option, Some, None, refl, sym, ap, ◌∙◌, arith}
-use Rattle.std.specs.Prelude.{All, not, if◌then◌else◌}
+use Rattle.std.proofs.Common.{◌≡◌, ℕ, ◌+◌, ◌&&◌, nat_lt, Bool, true, false, List, [], ◌∷◌, ◌++◌, length, Option, Some, None, refl, sym, ap, ◌∙◌}
+use Rattle.std.specs.Prelude.{All, not}
 use Rattle.std.proofs.lemmas.Bool.{and_parts}
 use Rattle.std.proofs.lemmas.List.Elements.{All-head, All-tail}
 use Rattle.ep_base.specs.declared.air.CardKind.{CardKind}
 use Rattle.ep_base.specs.declared.air.CardKind.TheVariants as kinds
 use Rattle.ep_base.specs.declared.air.Wave.{Wave}
-use Rattle.ep_base.specs.Air.Frame.{opened, is_bare, hits, after_burst, sealed}
+use Rattle.ep_base.specs.Air.Frame.{opened, is_bare, hits, after_burst}
 use Rattle.ep_base.specs.Air.Heard.{Sent, Heard, Silence, Noise, Overlap, Frame, same_wave, wave_of_kind, CardHear, Mute, Sends, Opens, Passes}
 use Rattle.ep_base.specs.Air.Fates as ways
 use Rattle.ep_base.specs.Air.Fates.{Way, next_fate}
 use Rattle.ep_base.proofs.Sizes.{IsSize}
 use Rattle.ep_base.specs.Link.Block.{Block}
 use Rattle.ep_base.specs.Link.CardEnd.{Answer, card_hears, is_halted, unlogged, fresh_card}
-use Rattle.ep_base.specs.Link.Spelling.{Read, Reads, Refuses, spelled, read_block}
-use Rattle.ep_base.specs.Link.Wire.{Party, Heeded, unmoved, by_commands, image_after, maybe_frame, answers_by, takes_block, takes_read, takes_opened, takes_frame, comes_down, comes_back}
+use Rattle.ep_base.specs.Link.Spelling.{Read, Reads, Refuses, read_block}
+use Rattle.ep_base.specs.Link.Wire.{Party, Heeded, unmoved, by_commands, maybe_frame, takes_block, takes_read, takes_opened, takes_frame, comes_down, comes_back}
 use Rattle.ep_base.specs.Cards.Field.{Outside, OfA, OfB, outside_after, outside_reply, outside_reset, outside_halted, Placed, CardAfter, untouched, by_reply, hears_frame, one_hears, maybe_answer, all_hear, all_same, joined, left_by, away, is_present, placed_reset, all_reset, Field, field_reset, all_take, field_hears, field_send}
 use Rattle.ep_base.specs.Cards.Inside.{is_inside}
 use Rattle.ep_base.specs.Cards.Lawful.{IsPlaced, ArePlaced}
 use Rattle.ep_claim.specs.Text.TraceLine.{answer_wave}
-use Rattle.ep_claim.specs.Text.TraceForm.{HoldsFrame, HoldsHeard}
+use Rattle.ep_claim.specs.Text.TraceForm.{HoldsHeard}
 use Rattle.ep_claim.specs.Lanes.Exchanges.{or_silence}
 use Rattle.law_round.proofs.Presenting.{either, when}
 use Rattle.law_lines.specs.Bytes.{CardOfBytes}
 use Rattle.law_lines.proofs.Octets.{burst_holds}
 use Rattle.law_lines.proofs.Imaging.{IsGood, good_deselected, good_after, good_answers}
-use Rattle.law_lines.proofs.Sending.{Fits, block_holds, LastFits, EndFits, AnswerFits, card_fits}
+use Rattle.law_lines.proofs.Sending.{block_holds, LastFits, EndFits, AnswerFits, card_fits}
 use Rattle.law_lines.proofs.Answering.{Answers, Replies, GoodOutside, wave_is, outside_good, outside_comes, outside_stays}
 
 -- ---- cards

@@ -1,16 +1,15 @@
 -- An image of bytes answers in bytes, and stays one.
-use Rattle.std.proofs.Common.{◌≡◌, ℕ, ◌-◌, ◌<◌, ◌≤◌, Bool, true, false, List, [], ◌∷◌, length, Option, Some, None, refl, sym, subst, arith}
+use Rattle.std.proofs.Common.{◌≡◌, ℕ, ◌-◌, ◌≤◌, Bool, true, false, List, [], ◌∷◌, length, Option, Some, None, refl, sym, subst, arith}
 use Rattle.std.specs.Prelude.{All, min, unwrap_or, slice_get, slice_set, position, nat_eq, if◌then◌else◌}
 use Rattle.std.specs.List.{starts_with}
 use Rattle.std.proofs.lemmas.Option.{unwrap_or-slice_get, get_or_from_slice_get, slice_get_within, slice_get_past}
 use Rattle.std.proofs.lemmas.List.Elements.{All-set, All-get_or}
 use Rattle.hex.specs.Hex.{IsBytes}
 use Rattle.ep_base.specs.Air.Heard.{Activated}
-use Rattle.ep_base.specs.Cards.Apdu.{same_bytes, command_data, ppse_name, is_9000}
-use Rattle.ep_base.specs.Cards.CardAnswer.{Answered, Answers, Rule, App, Image, IsImage, file_not_found, is_select, app_answer, app_selected, by_app, by_place, select_answer, ppse_answer, rule_used, app_with, by_rule, by_rule_place, app_executes, in_app, other_answer, card_answer}
+use Rattle.ep_base.specs.Cards.Apdu.{same_bytes, command_data, ppse_name}
+use Rattle.ep_base.specs.Cards.CardAnswer.{Answered, Rule, App, Image, IsImage, file_not_found, is_select, app_selected, by_app, by_place, select_answer, ppse_answer, rule_used, app_with, by_rule, by_rule_place, app_executes, in_app, other_answer, card_answer}
 use Rattle.ep_base.specs.Cards.Direct.{image_rules}
 use Rattle.ep_base.specs.Cards.Images.{unasked, last_answer}
-use Rattle.ep_base.specs.Link.CardEnd.{CommandRules}
 use Rattle.ep_base.specs.Link.Wire.{by_commands, image_after}
 use Rattle.law_wire.proofs.Limits.{answer_is, images_keep}
 use Rattle.law_lines.specs.Bytes.{RuleOfBytes, AppOfBytes, ImageOfBytes}

@@ -1,9 +1,9 @@
 -- A transaction asks and hears what trace lines can hold, exchange by exchange.
-use Rattle.std.proofs.Common.{◌≡◌, ℕ, zero, suc, ◌*◌, ◌^◌, ◌≤◌, Bool, true, false, List, [], ◌∷◌, ◌++◌, length, Option, Some, None, refl, subst, arith, min}
+use Rattle.std.proofs.Common.{ℕ, zero, suc, ◌^◌, ◌≤◌, List, [], ◌∷◌, ◌++◌, Option, Some, None, arith}
 use Rattle.std.specs.Prelude.{if◌then◌else◌}
 use Rattle.std.proofs.Math.Nat.{pow-le-pow_right}
 use Rattle.hex.specs.Hex.{IsBytes}
-use Rattle.ep_base.specs.declared.limits.TheConstants.{FRAME, FSDI}
+use Rattle.ep_base.specs.declared.limits.TheConstants.{FSDI}
 use Rattle.ep_base.specs.declared.air.Wave.{Wave}
 use Rattle.ep_base.specs.Air.Heard.{Ask, Heard, Silence, Noise, Overlap, Frame, RoundEnd, Empty, Collision, Unsupported, Broken, Found, wave_of_kind}
 use Rattle.ep_base.specs.Air.Heard as rounds
@@ -14,11 +14,10 @@ use Rattle.ep_base.specs.Link.Block.{Block, I, RAck, RNak, Deselect, Wtx}
 use Rattle.ep_base.specs.Link.LinkFrames.{LinkSetting, wait_of}
 use Rattle.ep_base.specs.Link.ReaderEnd.{ReaderTurn, Asks, Gives, Spends, Breaks, asked}
 use Rattle.ep_base.specs.Link.Carry.{turn_on}
-use Rattle.ep_base.specs.Poll.Radio.{OpenLink, link_to}
+use Rattle.ep_base.specs.Poll.Radio.{OpenLink}
 use Rattle.ep_base.specs.Poll.Round.{Stage, Waking, Halting, WakingB, InA, InB, round_asks, round_hears}
 use Rattle.ep_rules.specs.EntryPoint.Talk.{Talk, Over, Say, Poll, Command, Close, Result, Round, Response, Closed, Wish, Polls, Commands, Closes, Nothing, so_far}
-use Rattle.ep_claim.specs.Lanes.Steps.{times}
-use Rattle.ep_claim.specs.Lanes.Standing.{Doing, Rounds, Carries, Closing, Stopped, Astray, Standing, begins, doing_by, standing, started, asks_block, asked_by, link_by, after_stage, after_turn, hears_by, after_hearing}
+use Rattle.ep_claim.specs.Lanes.Standing.{Doing, Rounds, Carries, Closing, Stopped, Astray, Standing, doing_by, standing, asks_block, asked_by, link_by, after_stage, after_turn, hears_by, after_hearing}
 use Rattle.ep_claim.specs.Lanes.Exchanges.{field_answers, or_silence, Lane, opened_lane, goes_by, lane_step, lane_after}
 use Rattle.ep_claim.specs.Text.TraceForm.{HoldsFrame, HoldsHeard}
 use Rattle.law_lines.specs.Bytes.{AsksBytes}

@@ -1,13 +1,12 @@
 -- Lists of bytes, and frames made of them.
-use Rattle.std.proofs.Common.{◌≡◌, ℕ, zero, suc, ◌+◌, ◌-◌, ◌/◌, ◌%◌, ◌^◌, ◌<◌, ◌≤◌, List, [], ◌∷◌, ◌++◌, length, take, drop, Option, Some, None, All, refl, subst, sym, arith, length-append, length-take, bit_xor}
-use Rattle.std.specs.Prelude.{slice_index, if◌then◌else◌}
+use Rattle.std.proofs.Common.{◌≡◌, ℕ, zero, suc, ◌+◌, ◌-◌, ◌/◌, ◌%◌, ◌^◌, ◌<◌, ◌≤◌, List, [], ◌∷◌, ◌++◌, length, take, drop, Option, Some, None, arith, length-append, length-take, bit_xor}
 use Rattle.std.proofs.lemmas.Nat.{xor_lt}
 use Rattle.hex.specs.Hex.{IsBytes}
 use Rattle.ep_base.specs.declared.limits.TheConstants.{FRAME}
 use Rattle.ep_base.specs.declared.air.Wave.{Wave}
 use Rattle.ep_base.specs.declared.air.Wave.TheVariants.{AShort, ABare, A, B}
 use Rattle.ep_base.specs.Air.Check.{crc_a, crc_b}
-use Rattle.ep_base.specs.Air.Frame.{check_of, check_bytes, is_good, sealed, without_check, opened, inverted, after_burst, burst_bits}
+use Rattle.ep_base.specs.Air.Frame.{check_bytes, is_good, sealed, without_check, opened, inverted, after_burst, burst_bits}
 use Rattle.ep_claim.specs.Text.TraceForm.{HoldsFrame}
 use Rattle.rf_frame.proofs.BurstLaw.{joined_with_check}
 use Rattle.rf_frame.proofs.Inverted.{length-inverted}

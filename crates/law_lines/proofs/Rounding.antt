@@ -1,28 +1,28 @@
 -- The frames of a poll round, and what a round keeps of what it heard.
-use Rattle.std.proofs.Common.{◌≡◌, ℕ, zero, suc, ◌+◌, ◌*◌, ◌/◌, ◌%◌, ◌<◌, ◌≤◌, ◌==◌, nat_lt, leb-true, ◌&&◌, Bool, true, false, List, [], ◌∷◌, ◌++◌, length, take, drop, Option, Some, None, arith, length-append, length-take}
-use Rattle.std.specs.Prelude.{slice_index, Result, Ok, Err, not, if◌then◌else◌}
+use Rattle.std.proofs.Common.{◌≡◌, ℕ, ◌+◌, ◌*◌, ◌/◌, ◌%◌, ◌<◌, ◌≤◌, ◌==◌, nat_lt, leb-true, ◌&&◌, Bool, true, false, List, [], ◌∷◌, ◌++◌, length, take, drop, Option, Some, None, arith, length-append, length-take}
+use Rattle.std.specs.Prelude.{slice_index, Result, Ok, not, if◌then◌else◌}
 use Rattle.std.proofs.lemmas.Bool.{and_parts, eqb-true}
 use Rattle.std.proofs.lemmas.Bool.Decides.{nat_tests}
 use Rattle.hex.specs.Hex.{IsBytes}
 use Rattle.ep_base.specs.declared.limits.TheConstants.{FRAME, FSDI}
 use Rattle.ep_base.specs.declared.air.Wave.{Wave}
-use Rattle.ep_base.specs.declared.air.Wave.TheVariants.{AShort, ABare, A, B}
+use Rattle.ep_base.specs.declared.air.Wave.TheVariants.{ABare, A, B}
 use Rattle.ep_base.specs.declared.activation.Ats.{Ats}
 use Rattle.ep_base.specs.declared.activation.AtsFault.{AtsFault}
 use Rattle.ep_base.specs.declared.activation.Atqb.{Atqb}
 use Rattle.ep_base.specs.declared.activation.AtqbFault.{AtqbFault}
 use Rattle.ep_base.specs.Air.Frame.{opened}
 use Rattle.ep_base.specs.Air.FrameSize.{frame_size}
-use Rattle.ep_base.proofs.Sizes.{IsSize, frame_sized}
-use Rattle.ep_base.specs.Air.Heard.{Ask, Heard, Silence, Noise, Overlap, Frame, Activated, RoundEnd, Empty, Collision, Unsupported, Broken, Found, RoundTurn, Goes, Ends, Fails, is_silent, same_wave, says_opened, awaited, on_answer}
+use Rattle.ep_base.proofs.Sizes.{frame_sized}
+use Rattle.ep_base.specs.Air.Heard.{Heard, Silence, Noise, Overlap, Frame, Collision, Unsupported, Broken, RoundTurn, Goes, Ends, Fails, is_silent, same_wave, says_opened, awaited, on_answer}
 use Rattle.ep_base.specs.Cards.Activation.{ats, atqb, bit, waiting, interface_bytes, ats_fwi}
 use Rattle.ep_base.specs.Cards.CardLimits.{AreLimits, EndsInLimits}
-use Rattle.ep_base.specs.Cards.TypeA.{AStage, Woken, Level, Select, Complete, wupa, hlta, sel, is_level, bcc, continues, a_says, after_sak, after_ats}
+use Rattle.ep_base.specs.Cards.TypeA.{AStage, Woken, Level, Select, Complete, hlta, sel, is_level, bcc, continues, a_says, after_sak, after_ats}
 use Rattle.ep_base.specs.Cards.TypeB.{BStage, wupb, attrib_of, b_says, after_atqb}
 use Rattle.ep_base.specs.Poll.Round.{Stage, Waking, Halting, WakingB, InA, InB, round_asks, round_hears, in_a, in_b}
 use Rattle.ep_claim.specs.Text.TraceForm.{HoldsFrame}
 use Rattle.law_round.proofs.Presenting.{either, when}
-use Rattle.law_lines.proofs.Octets.{bytes_nil, bytes_cons, bytes_append, bytes_take, bytes_drop, bytes_one, bytes_two, sealed_holds, Says, opened_says}
+use Rattle.law_lines.proofs.Octets.{bytes_cons, bytes_append, bytes_take, bytes_drop, bytes_one, bytes_two, sealed_holds, Says, opened_says}
 
 -- what a stage keeps is made of bytes, and fits the frames that are sent then
 abbrev pub GoodStage : Stage → Type 0
@@ -46,7 +46,7 @@ attrib_holds pupi fsdi few h short =
     let size = length-append pupi last in
     let byte : fsdi < 256 = omega (arith, few) in (
       bytes_cons 0x1d (pupi ++ last) (omega arith)
-      (bytes_append pupi last h (bytes_cons 0 (fsdi ∷ 1 ∷ 0 ∷ []) (omega arith) (bytes_cons fsdi (1 ∷ 0 ∷ []) byte (bytes_two 1 0 (omega arith) (omega arith))))),
+          (bytes_append pupi last h (bytes_cons 0 (fsdi ∷ 1 ∷ 0 ∷ []) (omega arith) (bytes_cons fsdi (1 ∷ 0 ∷ []) byte (bytes_two 1 0 (omega arith) (omega arith))))),
       omega (arith, size, short),
     )
 

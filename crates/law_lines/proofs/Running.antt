@@ -1,6 +1,6 @@
 -- Every exchange of a run can be held by a trace line.
-use Rattle.std.proofs.Common.{◌≡◌, ℕ, zero, suc, ◌+◌, ◌<◌, ◌≤◌, Bool, List, [], ◌∷◌, ◌++◌, length, Option, Some, None, refl, sym, ap, subst, ◌∙◌, arith}
-use Rattle.std.specs.Prelude.{All, ◌==◌, if◌then◌else◌}
+use Rattle.std.proofs.Common.{◌≡◌, ℕ, ◌+◌, ◌<◌, ◌≤◌, Bool, List, [], ◌∷◌, ◌++◌, length, Option, Some, sym, subst, arith}
+use Rattle.std.specs.Prelude.{All, if◌then◌else◌}
 use Rattle.std.proofs.lemmas.List.Elements.{All-nil, All-head, All-tail}
 use Rattle.ep_base.specs.declared.limits.TheConstants.{FSDI, LANES}
 use Rattle.ep_base.specs.Air.Heard.{Ask}
@@ -8,8 +8,8 @@ use Rattle.ep_claim.specs.Lanes.Exchanges.{field_answers, or_silence, Lane}
 use Rattle.ep_claim.specs.Lanes.LaneText.{Going, Job, traced_as}
 use Rattle.ep_claim.specs.Lanes.Pieces.{of_lane, pieces_after}
 use Rattle.ep_claim.specs.Lanes.Standing.{asked_by}
-use Rattle.ep_claim.specs.Lanes.Telling.{jobs_of, job_after, Stands, LaneTells}
-use Rattle.ep_claim.specs.Lanes.WholeRun.{open_probe, run_after}
+use Rattle.ep_claim.specs.Lanes.Telling.{jobs_of, Stands, LaneTells}
+use Rattle.ep_claim.specs.Lanes.WholeRun.{open_probe}
 use Rattle.ep_claim.specs.Text.TraceForm.{HoldsLine}
 use Rattle.law_turns.proofs.Stepping.{choose}
 use Rattle.law_turns.proofs.Telling.{keeps_in_run_law}

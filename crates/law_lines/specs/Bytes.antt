@@ -1,10 +1,9 @@
 -- All that a transaction's cards and commands are made of are bytes (this project's own).
 use Rattle.std.specs.Prelude.{◌≡◌, ℕ, ◌<◌, ◌≤◌, All, List, length}
 use Rattle.hex.specs.Hex.{IsBytes}
-use Rattle.ep_base.specs.declared.limits.TheConstants.{COMMAND}
 use Rattle.ep_base.specs.Air.Heard.{RoundEnd}
 use Rattle.ep_base.specs.Cards.CardAnswer.{App, Image, Rule}
-use Rattle.ep_base.specs.Cards.Field.{Field, Outside, OfA, OfB, Placed}
+use Rattle.ep_base.specs.Cards.Field.{Outside, OfA, OfB, Placed}
 use Rattle.ep_base.specs.Cards.TypeA.{APlan}
 use Rattle.ep_base.specs.Cards.TypeB.{BPlan}
 use Rattle.ep_rules.specs.EntryPoint.Talk.{Talk, Over, Say, Poll, Command, Close}
