@@ -11,9 +11,11 @@ use Rattle.ep_claim.specs.Lanes.Standing.{asked_by}
 use Rattle.ep_claim.specs.Lanes.Telling.{jobs_of, Stands, LaneTells}
 use Rattle.ep_claim.specs.Lanes.WholeRun.{open_probe}
 use Rattle.ep_claim.specs.Text.TraceForm.{HoldsLine}
+use Rattle.ep_claim.specs.Text.TraceLine.{trace_text}
+use Rattle.trace_io.proofs.Spelt.{spelt_is_read, written_spells}
 use Rattle.law_turns.proofs.Stepping.{choose}
 use Rattle.law_turns.proofs.Telling.{keeps_in_run_law}
-use Rattle.law_lines.specs.RunLines.{IsTraceable, RunsAreHeld}
+use Rattle.law_lines.specs.RunLines.{IsTraceable, RunsAreHeld, RunsAreRead}
 use Rattle.law_lines.proofs.Fielding.{cards_made}
 use Rattle.law_lines.proofs.Keeping.{CanBeHeld, held_after}
 
@@ -82,3 +84,8 @@ runs_are_held_law traced fsdi turns lanes n lane g ask few many all is asks =
     let tells : LaneTells traced fsdi lane (jobs_of 1 lanes lane) text (Some g) =
     subst (λ o. LaneTells traced fsdi lane (jobs_of 1 lanes lane) text o) is (keeps_in_run_law traced fsdi turns lanes n lane) in
     going_holds traced fsdi lane lanes text g ask few many all tells asks
+
+pub runs_are_read_law : RunsAreRead
+runs_are_read_law traced fsdi turns lanes n lane g ask few many all is asks =
+    let line = traced_as lane ask (or_silence (field_answers ask g.lane.field).0) in
+    spelt_is_read (trace_text line) line (written_spells line (runs_are_held_law traced fsdi turns lanes n lane g ask few many all is asks))
