@@ -4,7 +4,7 @@
 #![tactic(auto)]
 
 ghost use Rattle.law_documents.specs.Meant.{DocumentsAreOfBytes};
-ghost use Rattle.law_documents.specs.Traced.{WrittenTracesAreRead};
+ghost use Rattle.law_documents.specs.Traced.{TracesAreEntered, WrittenTracesAreRead};
 
 /// Every transaction of a document that is accepted is made of bytes: its cards, and the commands that Entry Point and its
 /// kernels send, whatever responses of bytes come.
@@ -16,4 +16,10 @@ pub fn documents_are_of_bytes()
 /// and their exchanges are its trace.
 pub fn written_traces_are_read()
     ensures { WrittenTracesAreRead }
+{}
+
+/// A document with these texts at its key `trace` has there an array of them, and at every other key what it had; its keys
+/// are in byte order where they were.
+pub fn traces_are_entered()
+    ensures { TracesAreEntered }
 {}
