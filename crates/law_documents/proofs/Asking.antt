@@ -1,8 +1,8 @@
 -- All commands of a transaction are bytes, where the responses are, and the kernels send bytes.
-use Rattle.std.proofs.Common.{◌==◌, if◌then◌else◌, ℕ, zero, suc, ◌+◌, ◌<◌, ◌≤◌, nat_le, ◌&&◌, Bool, true, false, List, [], ◌∷◌, ◌++◌, length, length-append, refl, ◌≡◌, arith, cond, Some, None, Option}
+use Rattle.std.proofs.Common.{◌==◌, ℕ, zero, suc, ◌+◌, ◌<◌, ◌≤◌, nat_le, ◌&&◌, Bool, true, false, List, [], ◌∷◌, ◌++◌, length, length-append, refl, ◌≡◌, arith, cond, Some, None, Option}
 use Rattle.std.specs.Prelude.{All}
 use Rattle.std.proofs.lemmas.Bool.{cond_both, and_parts, leb-true}
-use Rattle.std.proofs.lemmas.List.Elements.{All-nil, All-cons, All-head, All-tail}
+use Rattle.std.proofs.lemmas.List.Elements.{All-cons, All-head, All-tail}
 use Rattle.hex.specs.Hex.{IsBytes}
 use Rattle.ep_base.specs.declared.limits.TheConstants.{ROUNDS}
 use Rattle.ep_base.specs.declared.outcome.OutcomeKind.{OutcomeKind}
@@ -127,8 +127,7 @@ module _ {S : Type 0} (k : KernelSteps S) (Good : S → Type 0) (sent : KernelsS
     selects_ask : (ones : List PreparedOne) (cs : List Candidate) → All (IsCandidate ones) cs → All CandidateOfBytes cs → AllAsk (selects k again cs)
     selects_ask ones [] are h s g = tt
     selects_ask ones (c ∷ cs) are h s g =
-        let more = selects_ask ones cs (All-tail (IsCandidate ones) c cs are) (All-tail CandidateOfBytes c cs h) in
-        (
+        let more = selects_ask ones cs (All-tail (IsCandidate ones) c cs are) (All-tail CandidateOfBytes c cs h) in (
           final_asks c (All-head (IsCandidate ones) c cs are).sixteen (All-head CandidateOfBytes c cs h),
           λ r _.
               let t = k.begin s (given_to c r) in

@@ -1,5 +1,5 @@
 -- The cards of a document that is accepted are made of bytes.
-use Rattle.std.proofs.Common.{◌≡◌, ℕ, ◌+◌, ◌<◌, ◌≤◌, List, [], ◌∷◌, length, codes, Bool, true, Result, Ok, subst, arith}
+use Rattle.std.proofs.Common.{◌≡◌, ℕ, ◌+◌, List, [], ◌∷◌, length, codes, true, Ok, subst, arith}
 use Rattle.std.specs.Prelude.{All, slice_index}
 use Rattle.std.proofs.lemmas.List.Elements.{All-nil, All-cons, All-head, All-tail}
 use Rattle.hex.specs.Hex.{IsBytes}
@@ -7,18 +7,18 @@ use Rattle.toml.specs.Data.{as_table}
 use Rattle.ep_base.specs.declared.air.CardKind.{CardKind}
 use Rattle.ep_base.specs.declared.air.CardKind.TheVariants.{A, B}
 use Rattle.ep_base.specs.declared.limits.TheConstants.{ANSWERS, APPLICATIONS, CARDS, COMMAND, RESPONSE, RULES}
-use Rattle.ep_base.specs.Cards.CardAnswer.{Rule, App, unused, new_image}
-use Rattle.ep_base.specs.Cards.Field.{Outside, OfA, OfB, Placed}
+use Rattle.ep_base.specs.Cards.CardAnswer.{Rule, App, unused}
+use Rattle.ep_base.specs.Cards.Field.{Outside, OfA, OfB}
 use Rattle.ep_base.specs.Cards.TypeA.{Idle}
 use Rattle.ep_base.specs.Cards.TypeB.{BIdle}
 use Rattle.doc_table.specs.declared.list.ElementKind.{ElementKind}
 use Rattle.doc_table.specs.declared.list.ElementKind.TheVariants as elements
-use Rattle.doc_table.specs.Read.{Reader, Place, of_kind, list_of, truth, byte_text, bytes_that, table_of, required, defaulted}
+use Rattle.doc_table.specs.Read.{Reader, Place, of_kind, list_of, truth, byte_text, table_of, required, defaulted}
 use Rattle.doc_table.proofs.Accepted.{Accepts, after, accepted_bytes, accepted_required, accepted_defaulted, accepted_list}
 use Rattle.card_table.specs.Cards.{Card, response, extensions, multiplier, rule_keys, rule_at, rule, app_keys, app_at, app, uid, is_uid, sak, is_sak, frame_code, waiting_code, ppse_list, app_list, a_keys, a_card_at, b_keys, b_card_at, card_of_kind, card_kind, card, all_new, card_list, cards_at}
 use Rattle.card_table.specs.Placing.{placed, placed_from}
 use Rattle.card_table.proofs.Whole.{accepted_frame, accepted_waiting, accepted_historical}
-use Rattle.law_lines.specs.Bytes.{RuleOfBytes, AppOfBytes, ImageOfBytes, APlanOfBytes, BPlanOfBytes, OutsideOfBytes, CardOfBytes}
+use Rattle.law_lines.specs.Bytes.{RuleOfBytes, AppOfBytes, OutsideOfBytes, CardOfBytes}
 use Rattle.law_documents.proofs.Parts.{no_bytes, one_more}
 use Rattle.law_documents.proofs.Spelling.{accepted_spelling}
 

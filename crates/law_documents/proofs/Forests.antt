@@ -3,7 +3,7 @@ use Rattle.std.proofs.Common.{ℕ, zero, suc, ◌==◌, nat_lt, nat_le, not, ◌
 use Rattle.hex.specs.Hex.{IsBytes}
 use Rattle.ep_base.specs.Objects.Forest.{Forest, nothing, padding, primitive, constructed, is_constructed}
 use Rattle.ep_base.specs.Objects.Reading.{Tagged, third_tag, second_tag, tag_of, Lengthed, one_byte, two_bytes, length_of, with_padding, with_primitive, with_constructed, with_length, with_tag, forest_by}
-use Rattle.law_documents.proofs.Parts.{IfThere, either, no_bytes, others, taken, dropped}
+use Rattle.law_documents.proofs.Parts.{IfThere, either, others, taken, dropped}
 
 -- All values in a forest are bytes.
 abbrev pub ForestOfBytes : Forest → Type 0

@@ -1,27 +1,25 @@
 -- The transactions of a document that is accepted are made of bytes.
-use Rattle.std.proofs.Common.{◌≡◌, ℕ, List, [], ◌∷◌, length, map, codes, None, Result, Ok, subst}
+use Rattle.std.proofs.Common.{◌≡◌, List, [], ◌∷◌, length, map, codes, Ok, subst}
 use Rattle.std.specs.Prelude.{All}
 use Rattle.std.proofs.lemmas.List.Elements.{All-nil, All-cons, All-head, All-tail}
 use Rattle.ep_base.specs.Cards.Apdu.{is_command}
 use Rattle.ep_base.specs.declared.limits.TheConstants.{FSDI, LANES, SCRIPTS, STEPS, TRANSACTIONS}
-use Rattle.toml.specs.Data.{Members}
 use Rattle.hex.specs.Hex.{IsBytes}
 use Rattle.ep_rules.specs.EntryPoint.Configuration.{Config}
 use Rattle.ep_rules.specs.EntryPoint.Kernel.{Step, Script, no_verdict}
 use Rattle.ep_rules.specs.EntryPoint.PreProcessing.{prepared}
-use Rattle.ep_claim.specs.Lanes.LaneText.{Job}
 use Rattle.doc_table.specs.declared.list.ElementKind.TheVariants as elements
 use Rattle.doc_table.specs.Read.{Place, place_of, table_of, required, defaulted, integer_in, list_of, bytes_that, byte_text}
-use Rattle.doc_table.proofs.Accepted.{Accepts, after, accepted_required, accepted_defaulted, accepted_list}
+use Rattle.doc_table.proofs.Accepted.{Accepts, after, accepted_required, accepted_defaulted}
 use Rattle.acquirer_config.specs.Config.{config_at}
 use Rattle.card_table.specs.Cards.{cards_at}
 use Rattle.fate_table.specs.Fates.{fates_at}
 use Rattle.fate_table.specs.Presence.{presence_at}
 use Rattle.trace_table.specs.Trace.{trace_at}
 use Rattle.scenario.specs.Outcomes.{outcome_text}
-use Rattle.scenario.specs.Jobs.{job_of, jobs_in}
-use Rattle.scenario.specs.Plan.{Transaction, Plan, scripts_at, transaction_keys, transaction_at, transaction, lane_keys, lane, lanes_at, root_keys, plan_at, plan}
-use Rattle.scenario.specs.Scenario.{Work, work_of, scenario_of}
+use Rattle.scenario.specs.Jobs.{job_of}
+use Rattle.scenario.specs.Plan.{Transaction, Plan, scripts_at, transaction_keys, transaction_at, transaction, lane_keys, lane, lanes_at, root_keys, plan_at}
+use Rattle.scenario.specs.Scenario.{Work, work_of}
 use Rattle.scenario.specs.Scripts.{step_keys, status_number, step_at, step, script_keys, script_at, script}
 use Rattle.scenario.specs.Turns.{turns_at}
 use Rattle.law_lines.specs.Bytes.{JobOfBytes}

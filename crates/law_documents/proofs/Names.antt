@@ -1,11 +1,11 @@
 -- The names of a directory's candidates are bytes, where the response was bytes.
-use Rattle.std.proofs.Common.{ℕ, suc, ◌+◌, ◌-◌, ◌==◌, nat_lt, List, [], ◌∷◌, ◌++◌, length, Option, Some, None}
+use Rattle.std.proofs.Common.{ℕ, suc, ◌+◌, ◌-◌, ◌==◌, nat_lt, List, [], ◌∷◌, length, Option, Some, None}
 use Rattle.std.specs.Prelude.{All}
 use Rattle.std.proofs.lemmas.List.Elements.{All-nil, All-cons, All-head, All-tail, All-append}
 use Rattle.hex.specs.Hex.{IsBytes}
 use Rattle.ep_base.specs.declared.limits.TheConstants.{NAMED}
 use Rattle.ep_base.specs.Cards.Apdu.{data_of, is_9000}
-use Rattle.ep_base.specs.Objects.Directory.{Entry, first_value, first_inside, entry_of, entries_in, inside, entries_of, entries_at, entries_read, directory}
+use Rattle.ep_base.specs.Objects.Directory.{Entry, first_value, first_inside, entry_of, entries_in, inside, entries_of, entries_read, directory}
 use Rattle.ep_base.specs.Objects.Forest.{Forest, nothing, padding, primitive, constructed, tag_number}
 use Rattle.ep_base.specs.Objects.Reading.{forest_of, forest_by}
 use Rattle.ep_rules.specs.EntryPoint.Candidates.{Candidate, candidate_of, candidates, fits, pairs_of, pairs_after, named_with, pairs_from, is_before, put_in, in_order, bytes_or_none}

@@ -1,6 +1,5 @@
 -- Parts of bytes are bytes.
 use Rattle.std.proofs.Common.{ℕ, zero, suc, ◌<◌, Bool, true, false, if◌then◌else◌, List, [], ◌∷◌, ◌++◌, take, drop, Option, Some, None, arith}
-use Rattle.std.specs.Prelude.{slice_index}
 use Rattle.hex.specs.Hex.{IsBytes}
 
 -- What is there has this property.

@@ -1,5 +1,5 @@
 -- A document with a trace that was written.
-use Rattle.std.proofs.Common.{◌≡◌, ℕ, ◌+◌, ◌≤◌, pos, nat_cmp, nat_lt, is_eq, Bool, true, false, if◌then◌else◌, List, [], ◌∷◌, length, map, codes, Option, Some, None, Result, Ok, Err, refl, sym, ap, ap₂, ◌∙◌, subst, arith}
+use Rattle.std.proofs.Common.{◌≡◌, ℕ, ◌+◌, ◌≤◌, pos, nat_cmp, nat_lt, is_eq, Bool, true, false, if◌then◌else◌, List, [], ◌∷◌, length, map, codes, Option, Some, None, Result, Ok, refl, sym, ap, ap₂, ◌∙◌, subst, arith}
 use Rattle.std.specs.Prelude.{All, unwrap_or}
 use Rattle.std.specs.Cmp.Lexicographic.{slice_cmp}
 use Rattle.std.proofs.lemmas.Bool.Decides.{nat_tests}
@@ -9,16 +9,15 @@ use Rattle.toml.specs.Data.{array, Items, Members, get_member}
 use Rattle.ep_base.specs.declared.limits.TheConstants.{FSDI, LANES, TRACE_LINES, TURNS}
 use Rattle.ep_claim.specs.Text.TraceForm.{HoldsLine}
 use Rattle.ep_claim.specs.Text.TraceLine.{TraceLine, trace_text, read_trace_line}
-use Rattle.ep_rules.specs.EntryPoint.Configuration.{Config}
 use Rattle.doc_table.specs.Fault.{Fault}
 use Rattle.doc_table.specs.Path.{key_path, element_path}
 use Rattle.doc_table.specs.declared.list.ElementKind.TheVariants.{Integer, Text, Table}
-use Rattle.doc_table.specs.Read.{◌>>=◌, Reader, Place, allowed, of_kind, all_known, place_of, if_there, optional, wanted, required, defaulted, integer_in, first_unknown, item_count, is_of, all_items, if_all, array_of, counted, items_of_kind, each, list_of}
+use Rattle.doc_table.specs.Read.{◌>>=◌, Reader, Place, allowed, of_kind, all_known, place_of, if_there, optional, wanted, required, defaulted, integer_in, first_unknown, item_count, is_of, all_items, array_of, counted, items_of_kind, each, list_of}
 use Rattle.doc_table.proofs.Accepted.{after}
 use Rattle.acquirer_config.specs.Config.{combinations, config_at}
 use Rattle.trace_io.proofs.Spelt.{spelt_is_read, written_spells}
 use Rattle.trace_table.specs.Trace.{line, trace_at}
-use Rattle.scenario.specs.Plan.{Plan, lane, lanes_at, root_keys, plan_at, plan}
+use Rattle.scenario.specs.Plan.{Plan, lane, lanes_at, root_keys, plan_at}
 use Rattle.scenario.specs.Turns.{turns_at}
 use Rattle.law_documents.specs.Traced.{text_items, with_trace, WrittenTracesAreRead}
 use Rattle.law_documents.proofs.Adding.{found_there, others_stay, still_known}
