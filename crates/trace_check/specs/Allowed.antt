@@ -1,6 +1,6 @@
 -- When the lines of a lane are allowed: some lines after them complete them to a list that can be cut into poll rounds and links
 -- (ISO/IEC 14443-4 and this project's profile).
-use Rattle.std.specs.Prelude.{◌≡◌, ◌≢◌, ◌⊎◌, ℕ, true, List, [], ◌∷◌, ◌++◌, Option, None}
+use Rattle.std.specs.Prelude.{◌≡◌, ◌≢◌, ◌⊎◌, ℕ, true, List, [], ◌∷◌, ◌++◌, None}
 use Rattle.ep_base.specs.Air.Heard.{Ask, Activated, RoundEnd, Found, RoundTurn, Goes, Ends}
 use Rattle.ep_base.specs.Cards.Apdu.{is_command}
 use Rattle.ep_base.specs.Link.Block.{Deselect}

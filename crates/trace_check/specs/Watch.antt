@@ -1,5 +1,5 @@
 -- A lane as the checker watches it, line by line (this project's own).
-use Rattle.std.specs.Prelude.{ℕ, suc, ◌+◌, ◌-◌, ◌==◌, ◌&&◌, nat_le, nat_lt, Bool, true, false, not, List, [], ◌++◌, length, Option, Some, None, if◌then◌else◌}
+use Rattle.std.specs.Prelude.{ℕ, suc, ◌+◌, ◌-◌, ◌==◌, ◌&&◌, nat_le, nat_lt, Bool, true, false, List, [], ◌++◌, length, Option, Some, None, Result, Ok, Err, if◌then◌else◌}
 use Rattle.ep_base.specs.declared.air.Wave.{Wave}
 use Rattle.ep_base.specs.Air.Frame.{opened}
 use Rattle.ep_base.specs.Air.Heard.{Ask, Heard, Activated, RoundTurn, Goes, Ends, same_wave, wave_of_kind}
@@ -12,43 +12,14 @@ use Rattle.ep_base.specs.Poll.Polling.{card_in}
 use Rattle.ep_base.specs.Poll.Radio.{setting_of}
 use Rattle.ep_base.specs.declared.limits.TheConstants.{RESPONSE, WAITS}
 use Rattle.trace_check.specs.Commands.{may_go_on}
+use Rattle.trace_check.specs.Held.{Tally, Parts, Inf}
+use Rattle.trace_check.specs.declared.latest.Latest.{Latest}
+use Rattle.trace_check.specs.declared.latest.Latest.TheVariants.{Plain, Lost, Waits}
+use Rattle.trace_check.specs.declared.watch.Watch.{Watch}
+use Rattle.trace_check.specs.declared.watch.Watch.TheVariants.{Ready, InRound, Resting, Closing, Between, Sending, Receiving}
+use Rattle.trace_check.specs.declared.verdict.Rule.{Rule}
+use Rattle.trace_check.specs.declared.verdict.Rule.TheVariants as rules
 use Rattle.trace_check.specs.Lines.{Line}
-
--- A poll round: the reader's FSDI, and what was sent last.
-pub record RoundAt : Type 0 where
-  pub fsdi : ℕ
-  pub stage : Stage
-
--- What the block that is due goes by: nothing, a bad hearing, or an S(WTX) with its WTXM.
-pub data Latest : Type 0 where
-  Plain : Latest
-  Lost : Latest
-  Waits : (wtxm : ℕ) → Latest
-
--- An open command: its link, the block number, what was heard last since the toggle, and how many bad hearings and S(WTX) there were since.
-pub record Tally : Type 0 where
-  pub set : LinkSetting
-  pub number : Bool
-  pub latest : Latest
-  pub bad : ℕ
-  pub wtx : ℕ
-
--- The bytes of the parts of a command before the last one that was sent, that part, and whether more follow.
-pub record Parts : Type 0 where
-  pub sent : List ℕ
-  pub part : List ℕ
-  pub chained : Bool
-
--- Between a round and the next one; in a round; in a link with no command open; the link is being closed; a part of a command was taken, and the next
--- one is due; a part was sent; so many bytes of a response came.
-pub data Watch : Type 0 where
-  Ready : Watch
-  InRound : (round : RoundAt) → Watch
-  Resting : (set : LinkSetting) (number : Bool) → Watch
-  Closing : (set : LinkSetting) → Watch
-  Between : (set : LinkSetting) (number : Bool) (sent : List ℕ) → Watch
-  Sending : (tally : Tally) (parts : Parts) → Watch
-  Receiving : (tally : Tally) (got : ℕ) → Watch
 
 -- A link is open.
 abbrev pub is_open : Watch → Bool
@@ -83,11 +54,6 @@ asks (Closing set) = Some (block_ask set.kind set.fwi Deselect)
 asks (Between set number sent) = None
 asks (Sending tally parts) = Some (block_ask tally.set.kind tally.set.fwi (part_block tally parts))
 asks (Receiving tally got) = Some (block_ask tally.set.kind tally.set.fwi (ack_block tally))
-
--- An I-block: whether more parts follow, and its INF.
-pub record Inf : Type 0 where
-  pub chained : Bool
-  pub bytes : List ℕ
 
 -- A block that is an I-block.
 abbrev pub part_read : Read → Option Inf
@@ -175,8 +141,8 @@ is_lost (Waits wtxm) = false
 
 -- A part of a response of so many bytes fits after so many.
 abbrev pub fits : (frame got : ℕ) → Bool → ℕ → Bool
-fits frame got true len = nat_le (len + 3) frame && (nat_lt 0 len && nat_le (got + len) RESPONSE)
-fits frame got false len = nat_le (len + 3) frame && (nat_le 2 (got + len) && nat_le (got + len) RESPONSE)
+fits frame got true len = nat_le (len + 3) frame && nat_lt 0 len && nat_le (got + len) RESPONSE
+fits frame got false len = nat_le (len + 3) frame && nat_le 2 (got + len) && nat_le (got + len) RESPONSE
 
 -- A part of a response came: more follow, or it is whole.
 abbrev pub received : Tally → ℕ → Bool → Watch
@@ -199,11 +165,15 @@ after_wtx t w = if nat_le (suc t.wtx) WAITS then Some w else None
 abbrev pub taken : Tally → Parts → Option Watch
 taken t p = if p.chained then Some (Between t.set (other t.number) (p.sent ++ p.part)) else None
 
+-- A part of a response can come once the last part of the command was sent.
+abbrev pub answered : Tally → Parts → Bool → ℕ → Option Watch
+answered t p ch len = if p.chained then None else takes_part t 0 ch len
+
 -- What follows a hearing while a command is sent.
 abbrev pub hears_sending : Tally → Parts → ReadBlock → Option Watch
 hears_sending t p Bad = Some (after_bad t (Sending (lost t) p))
 hears_sending t p Junk = None
-hears_sending t p (Intact (I k ch inf)) = if same k t.number && not p.chained then takes_part t 0 ch (length inf) else None
+hears_sending t p (Intact (I k ch inf)) = if same k t.number then answered t p ch (length inf) else None
 hears_sending t p (Intact (RAck k)) = if same k t.number then taken t p else (if is_lost t.latest then Some (Sending (again t) p) else None)
 hears_sending t p (Intact (RNak k)) = None
 hears_sending t p (Intact Deselect) = None
@@ -229,15 +199,23 @@ hears (Between set number sent) heard = None
 hears (Sending tally parts) heard = hears_sending tally parts (heard_block tally.set.kind tally.set.frames.reader heard)
 hears (Receiving tally got) heard = hears_receiving tally got (heard_block tally.set.kind tally.set.frames.reader heard)
 
--- The line's frame is the one that is asked, whatever its waiting number.
+-- A frame is the one that is asked, whatever its waiting number.
+abbrev pub has_frame : Option Ask → Wave → List ℕ → Bool
+has_frame None wave frame = false
+has_frame (Some ask) wave frame = same_wave wave ask.wave && same_bytes frame ask.bytes
+
+-- A waiting number is the one that is asked.
+abbrev pub has_wait : Option Ask → ℕ → Bool
+has_wait None wait = false
+has_wait (Some ask) wait = wait == ask.wait
+
+-- The line's frame is the one that is asked.
 abbrev pub is_frame : Option Ask → Line → Bool
-is_frame None l = false
-is_frame (Some ask) l = same_wave l.wave ask.wave && same_bytes l.frame ask.bytes
+is_frame o l = has_frame o l.wave l.frame
 
 -- The line's waiting number is the one that is asked.
 abbrev pub is_wait : Option Ask → Line → Bool
-is_wait None l = false
-is_wait (Some ask) l = l.wait == ask.wait
+is_wait o l = has_wait o l.wait
 
 -- A line once what is asked is settled.
 abbrev pub steps_settled : Watch → Line → Option Watch
@@ -251,3 +229,22 @@ steps_by (Some w) l = steps_settled w l
 -- The lane after one more line, if that is allowed.
 abbrev pub steps : ℕ → Watch → Line → Option Watch
 steps fsdi w l = steps_by (settles fsdi w l.wave l.frame) l
+
+-- The rule of a line for which the frame isn't right.
+abbrev pub rule_by : Bool → Rule
+rule_by true = rules.Reader
+rule_by false = rules.Activation
+
+-- The rule of a bad line, once what is asked is settled: of the lane's open link or not.
+abbrev pub rule_settled : Bool → Option Watch → Line → Rule
+rule_settled opened None l = rule_by opened
+rule_settled opened (Some w) l = if is_frame (asks w) l then (if is_wait (asks w) l then rules.Card else rules.Wait) else rule_by opened
+
+-- The rule of a bad line.
+abbrev pub rule_of : ℕ → Watch → Line → Rule
+rule_of fsdi w l = rule_settled (is_open w) (settles fsdi w l.wave l.frame) l
+
+-- The lane after a line that is allowed.
+abbrev pub step_of : Result Watch Rule → Option Watch
+step_of (Ok w) = Some w
+step_of (Err rule) = None

@@ -3,7 +3,14 @@
 #![tactic(auto)]
 
 mod check;
+mod lanes;
+mod latest;
+mod link;
+mod parts;
+mod round;
+mod tally;
 mod verdict;
+mod watch;
 
 pub use check::check_trace;
 pub use ep_base::Wave;

@@ -1,0 +1,9 @@
+pub mod Adding
+pub mod Asking
+pub mod Cards
+pub mod Forests
+pub mod Meaning
+pub mod Names
+pub mod Parts
+pub mod Spelling
+pub mod Tracing

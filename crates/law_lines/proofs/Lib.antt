@@ -1,0 +1,9 @@
+pub mod Answering
+pub mod Carrying
+pub mod Fielding
+pub mod Imaging
+pub mod Keeping
+pub mod Octets
+pub mod Rounding
+pub mod Running
+pub mod Sending

@@ -1,0 +1,14 @@
+pub mod Checking
+pub mod Completing
+pub mod Cuts
+pub mod Futures
+pub mod Hearing
+pub mod Lawful
+pub mod Opening
+pub mod Parting
+pub mod Ruling
+pub mod Running
+pub mod Sendings
+pub mod Settling
+pub mod Sizing
+pub mod Stepping
