@@ -3,7 +3,7 @@ use Rattle.std.proofs.Common.{◌≡◌, ◌∙◌, ℕ, ◌≤◌, ℤ, List, [
 use Rattle.std.specs.Prelude.{All, ⊤}
 use Rattle.std.specs.Option.{ForSome}
 use Rattle.std.specs.Io.KnownBytes.{Appends, Keeps}
-use Rattle.ep_base.specs.declared.limits.TheConstants.{LANES, TRACE_LINES}
+use Rattle.ep_base.specs.declared.limits.TheConstants.{TRACE_LINES}
 use Rattle.ep_base.specs.Streams.Io.{AppendsPrefix}
 use Rattle.toml.specs.Data.{Members, as_str}
 use Rattle.ep_claim.specs.Text.TraceForm.{SpellsLine}
@@ -14,6 +14,7 @@ use Rattle.doc_table.specs.declared.list.ElementKind.TheVariants as elements
 use Rattle.doc_table.proofs.Accepted.{Accepts, after, accepted_optional, accepted_list}
 use Rattle.acquirer_config.specs.Config.{config_at}
 use Rattle.trace_io.proofs.Parts.{read_spells}
+use Rattle.trace_check.specs.Verdicts.{HasLane}
 use Rattle.trace_table.specs.Trace.{line, trace_at}
 use Rattle.scenario.specs.Accepted.{IsAccepted}
 use Rattle.scenario.specs.Plan.{Plan, lanes_at, plan, plan_at, root_keys}
@@ -26,9 +27,6 @@ use Rattle.ep_program.specs.declared.status.Status.TheVariants.{Done, ReadFault,
 use Rattle.ep_program.proofs.Replaying.{with_lines}
 
 -- ---- the lanes of trace lines
-
-abbrev HasLane : TraceLine → Type 0
-HasLane l = (1 ≤ l.sent.lane) × (l.sent.lane ≤ LANES)
 
 allowed_ok : {A : Type 0} (path : List ℕ) (z : ℤ) (o : Option A) (x : A) → allowed path z o ≡ Ok x → o ≡ Some x
 allowed_ok path z (Some y) x e = cc

@@ -4,10 +4,10 @@ use Rattle.std.specs.Option.{ForSome}
 use Rattle.std.specs.declared.option.Option.{Option}
 use Rattle.std.specs.Io.KnownBytes.{Appends, Keeps}
 use Rattle.toml.specs.Data.{Members}
-use Rattle.ep_base.specs.declared.limits.TheConstants.{FSDI, LANES, TRACE_LINES}
+use Rattle.ep_base.specs.declared.limits.TheConstants.{FSDI, TRACE_LINES}
 use Rattle.ep_base.specs.Streams.Io.{AppendsPrefix}
 use Rattle.ep_claim.specs.Text.TraceLine.{TraceLine}
-use Rattle.trace_check.specs.Verdicts.{AreAllowed, Names}
+use Rattle.trace_check.specs.Verdicts.{AreAllowed, HasLane, Names}
 use Rattle.trace_check.specs.declared.verdict.Rule.{Rule}
 use Rattle.trace_check.specs.declared.verdict.Rule.TheVariants.{Activation, Reader, Card, Wait}
 use Rattle.trace_check.specs.declared.verdict.Verdict.{Verdict}
@@ -65,7 +65,7 @@ Checks input before after (Mismatch m) = ⊥
 pub record IsCheckable (s : Scenario) : Type 0 where
   pub code : s.fsdi ≤ FSDI
   pub few : ForSome s.trace (λ lines. length lines ≤ TRACE_LINES)
-  pub lanes : ForSome s.trace (λ lines. All (λ (l : TraceLine). (1 ≤ l.sent.lane) × (l.sent.lane ≤ LANES)) lines)
+  pub lanes : ForSome s.trace (All HasLane)
 
 -- What checking a scenario's trace answers, and what it writes (this project's own).
 abbrev pub Judges : Scenario → (before after : Option (List ℕ)) → Status → Type 0
