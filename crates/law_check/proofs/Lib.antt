@@ -1,2 +1,4 @@
 pub mod Following
 pub mod Openings
+pub mod Runs
+pub mod Transactions
