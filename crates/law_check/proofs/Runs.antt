@@ -120,7 +120,7 @@ module _ (fsdi : ℕ) where
         let over : IsOverAt fsdi u.job (suc u.count) = ap (λ (l : Lane). asked_by fsdi l.standing.doing) (sym next_is) ∙ e in
         opens_stand lane (g.txn + 1) g.left (ls ++ line ∷ []) (done_next over) u.left
 
-    pub piece_stands : Stands (ls ++ line ∷ []) (piece_of fsdi lane g next).going
+    piece_stands : Stands (ls ++ line ∷ []) (piece_of fsdi lane g next).going
     piece_stands = goes_stand (asked_by fsdi next.standing.doing) refl
 
   opening_stands : (lanes : List (List Job)) (first lane : ℕ) → All MayAll lanes → Stands [] (opening_lanes fsdi first lanes lane)
