@@ -5,7 +5,6 @@ use Rattle.ep_base.specs.Air.Heard.{Ask, RoundEnd, Empty, Collision, Unsupported
 use Rattle.ep_base.specs.Cards.Apdu.{is_command}
 use Rattle.ep_base.specs.Cards.Field.{Field}
 use Rattle.ep_base.specs.Link.Block.{Deselect}
-use Rattle.ep_base.specs.Link.LinkFrames.{LinkSetting}
 use Rattle.ep_base.specs.Link.ReaderEnd.{ReaderTurn, Asks, Gives, Spends, Breaks, asked}
 use Rattle.ep_base.specs.Link.Carry.{turn_on}
 use Rattle.ep_base.specs.Poll.Round.{Stage, round_asks, round_hears}

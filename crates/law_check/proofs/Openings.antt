@@ -1,5 +1,5 @@
 -- The transaction of Entry Point polls and is over only where no card's presentation is open.
-use Rattle.std.proofs.Common.{◌≡◌, ℕ, zero, suc, ◌+◌, ◌≤◌, Bool, true, false, List, [], ◌∷◌, Option, Some, None, refl, arith}
+use Rattle.std.proofs.Common.{ℕ, zero, suc, ◌+◌, ◌≤◌, Bool, true, false, List, [], ◌∷◌, Option, Some, None, refl, arith}
 use Rattle.std.specs.Prelude.{if◌then◌else◌}
 use Rattle.ep_base.specs.declared.limits.TheConstants.{ROUNDS}
 use Rattle.ep_base.specs.declared.outcome.OutcomeKind.{OutcomeKind}

@@ -1,9 +1,8 @@
 -- The lines of each lane of a run are those of its transactions, and so they are allowed.
 use Rattle.std.proofs.Common.{◌≡◌, ℕ, zero, suc, ◌+◌, Bool, true, false, List, [], ◌∷◌, ◌++◌, length, All, Option, Some, None, refl, sym, ap, ◌∙◌, subst, append_assoc, append-nil}
 use Rattle.std.specs.Prelude.{◌==◌, if◌then◌else◌}
-use Rattle.std.proofs.lemmas.List.Elements.{All-nil, All-head, All-tail}
+use Rattle.std.proofs.lemmas.List.Elements.{All-head, All-tail}
 use Rattle.ep_base.specs.Air.Heard.{Ask, Heard}
-use Rattle.ep_base.specs.Cards.Field.{Field}
 use Rattle.ep_rules.specs.EntryPoint.Talk.{Talk}
 use Rattle.ep_claim.specs.Text.TraceLine.{TraceLine}
 use Rattle.ep_claim.specs.Lanes.Steps.{times}
@@ -62,16 +61,16 @@ module _ (fsdi : ℕ) where
   opens_stand lane txn (j ∷ js) ls cut may =
       elim (asked_by fsdi (started j.talk).doing) as (λ (a : Option Ask). Stands ls (opens_by lane txn j js (opens fsdi lane (txn + 1) js) a).going) [
         | Some ask ↦ record {
-            done = ls;
-            job = j;
-            count = 0;
-            parts = sym (append-nil ls);
-            cut = cut;
-            talks = refl;
-            made = refl;
-            may = All-head May j js may;
-            left = All-tail May j js may;
-          }
+          done = ls;
+          job = j;
+          count = 0;
+          parts = sym (append-nil ls);
+          cut = cut;
+          talks = refl;
+          made = refl;
+          may = All-head May j js may;
+          left = All-tail May j js may;
+        }
         | None ↦ opens_stand lane (txn + 1) js ls cut (All-tail May j js may)
       ]
 

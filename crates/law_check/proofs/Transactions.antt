@@ -1,9 +1,6 @@
 -- The exchanges of a transaction that is over can be cut, and those of one that isn't can be completed.
 use Rattle.std.proofs.Common.{◌≡◌, ℕ, zero, suc, ◌+◌, false, List, [], ◌∷◌, ◌++◌, Option, Some, None, refl, sym, ap, ◌∙◌, subst, append_assoc, append-nil, arith}
 use Rattle.ep_base.specs.Air.Heard.{Ask}
-use Rattle.ep_base.specs.Cards.Images.{Rules}
-use Rattle.ep_base.specs.Cards.Field.{Field}
-use Rattle.ep_rules.specs.EntryPoint.Perfect.{Perfect}
 use Rattle.ep_rules.specs.EntryPoint.Talk.{Talk}
 use Rattle.ep_rules.specs.EntryPoint.TransportRun.{HearEnd, Whole, AtLink, AtBreach, AtDevice}
 use Rattle.ep_claim.specs.Promise.Perfection.{Keeps}
