@@ -6,6 +6,7 @@
 ghost use Rattle.ep_rules.specs.EntryPoint.Kernel.{KernelSteps};
 ghost use Rattle.law_check.specs.Openings.{TransactionClosesOpened};
 ghost use Rattle.law_check.specs.Allowing.{RunsAreAllowed, TransactionsAreCut};
+ghost use Rattle.law_check.specs.RunLines.{LinesAreWritten};
 
 /// A transaction of Entry Point, with kernels whose counts fall, polls and is over only where no card's presentation is open.
 /// S has the states of the kernels.
@@ -25,4 +26,9 @@ pub fn transactions_are_cut()
 /// order of the lanes, and whatever becomes of the frames.
 pub fn runs_are_allowed()
     ensures { RunsAreAllowed }
+{}
+
+/// The text of a run with a trace has these lines: that of each exchange, before what the exchange writes without a trace.
+pub fn lines_are_written()
+    ensures { LinesAreWritten }
 {}
