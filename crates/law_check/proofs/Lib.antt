@@ -1,0 +1,5 @@
+pub mod Following
+pub mod Openings
+pub mod Runs
+pub mod Transactions
+pub mod Writing

@@ -1,0 +1,3 @@
+pub mod Allowing
+pub mod Openings
+pub mod RunLines
