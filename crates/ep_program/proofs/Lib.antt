@@ -2,6 +2,7 @@ pub mod Given
 pub mod Inventorying
 pub mod Loading
 pub mod Numbers
+pub mod OwnReplays
 pub mod Promising
 pub mod Ready
 pub mod Replaying

@@ -74,7 +74,7 @@ module _ (s : Scenario) (lines : List TraceLine) (before after : Option (List �
 
 -- ---- a document that was read
 
-with_lines : (members : Members) (p : Plan) (r : Result (List TraceLine) Fault) → plan members ≡ Ok p → trace_lines p.trace ≡ r
+pub with_lines : (members : Members) (p : Plan) (r : Result (List TraceLine) Fault) → plan members ≡ Ok p → trace_lines p.trace ≡ r
     → replay_plan members ≡ (r >>= λ ls. Ok (p, ls))
 with_lines members p r read is =
     ap (λ (x : Result Plan Fault). x >>= λ q. trace_lines q.trace >>= λ ls. Ok (q, ls)) read ∙ ap (λ (x : Result (List TraceLine) Fault). x >>= λ ls. Ok (p, ls)) is
