@@ -163,9 +163,9 @@ told_inline (Start txn_type amount) = simp (inline_append, hex_inline, decimal_i
 told_inline (Pre number one) = simp (inline_append, hex_inline, decimal_inline, truth_inline, ttq_inline) refl
 told_inline (Notice message) = simp (inline_append, hex_inline, words_inline) refl
 told_inline (Card kind id) = simp (inline_append, hex_inline, card_inline) refl
-told_inline (Candidates count) = simp (inline_append, decimal_inline) refl
+told_inline (Candidates count) = decimal_inline count
 told_inline (Activate given) = simp (inline_append, hex_inline, decimal_inline, ttq_inline) refl
-told_inline (Outcome kind) = simp (inline_append, kind_inline) refl
+told_inline (Outcome kind) = kind_inline kind
 
 said_inline : (said : EventData) → is_inline (said_text said) ≡ true
 said_inline (Tells what) = told_inline what
@@ -249,6 +249,12 @@ record_line lane txn entry =
       trace = ap is_trace_line apart ∙ prefix_first lane txn (text ++ 10 ∷ []);
     })
 
+line_inline : (line : TraceLine) → is_inline (trace_text line) ≡ true
+line_inline line =
+    inline_more (codes "x " ++ shown_text line.sent ++ codes " ") (heard_text line.heard)
+    (inline_more (codes "x " ++ shown_text line.sent) (codes " ") (inline_more (codes "x ") (shown_text line.sent) refl (shown_inline line.sent)) refl)
+    (heard_inline line.heard)
+
 pub traced_line : (line : TraceLine) (rest : List ℕ) → (lines_in (trace_line line ++ rest) ≡ trace_line line ∷ lines_in rest) × (is_trace_line (trace_line line) ≡ true)
 unfolding trace_line
-traced_line line rest = (line_first (trace_text line) rest (simp (inline_append, shown_inline, heard_inline) refl), refl)
+traced_line line rest = (line_first (trace_text line) rest (line_inline line), refl)

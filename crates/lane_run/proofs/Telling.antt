@@ -203,7 +203,7 @@ module _ (traced : Bool) (fsdi : ℕ) where
   retold text run = record { lanes = run.lanes; order = run.order; probe = run.probe; text = text }
 
   -- a run, and the same without its trace lines
-  pub record Beside (run plain : Run (Unit {0})) (said : List ℕ) (lines : List TraceLine) : Type 0 where
+  record Beside (run plain : Run (Unit {0})) (said : List ℕ) (lines : List TraceLine) : Type 0 where
     pub same : plain ≡ retold plain.text run
     pub tells : Tells traced run.text plain.text said lines
 
