@@ -3,6 +3,7 @@ pub mod Inventorying
 pub mod Judging
 pub mod Loading
 pub mod Numbers
+pub mod OwnReplays
 pub mod Promising
 pub mod Ready
 pub mod Replaying

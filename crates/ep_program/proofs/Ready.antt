@@ -75,7 +75,7 @@ module _ (settings : Config) (limits : IsConfig settings) (fsdi : ℕ) where
 lane_short : (settings : Config) (lane : List Transaction) → IsLane lane → length (map (work_of settings) lane) ≤ 64
 lane_short settings lane is = subst (λ n. n ≤ TRANSACTIONS) (sym (length-map lane (work_of settings))) is.short
 
-is_ready : (p : Plan) → IsAccepted p → IsReady (scenario_of p)
+pub is_ready : (p : Plan) → IsAccepted p → IsReady (scenario_of p)
 is_ready p accepted = record {
   code = accepted.fsdi;
   few = subst (λ n. n ≤ LANES) (sym (length-map p.lanes (λ lane. map (work_of p.config) lane))) accepted.few;
@@ -151,7 +151,7 @@ module _ (settings : Config) (fsdi : ℕ) where
       All-map (All (MayBegin fsdi)) (λ lane. map (job_of settings) lane) lanes
       (All-weaker (All (IsFresh settings fsdi)) (λ lane. All (MayBegin fsdi) (map (job_of settings) lane)) jobs_begin lanes fresh)
 
-is_text : {P : Type 0} (steps : ProbeSteps P) (traced : Bool) (s : Scenario) (p : P) (text : List ℕ) (q : P) → IsReady s
+pub is_text : {P : Type 0} (steps : ProbeSteps P) (traced : Bool) (s : Scenario) (p : P) (text : List ℕ) (q : P) → IsReady s
     → HasRun traced steps s.fsdi s.turns p (jobs_in s) text q
     → IsTextOf steps traced s p text q
 is_text steps traced s p text q ready run = record {

@@ -4,6 +4,7 @@ pub mod Headline
 pub mod Input
 pub mod Inventory
 pub mod Load
+pub mod OwnReplay
 pub mod Replay
 pub mod Serve
 pub mod Status

@@ -1,10 +1,11 @@
 //! The top call.
-ghost use Rattle.std.specs.Prelude.{◌≡◌, true, false};
+ghost use Rattle.std.specs.Prelude.{◌≡◌, true, false, Some};
 ghost use Rattle.std.specs.Io.KnownBytes.{IsAtEnd};
 ghost use Rattle.ep_base.specs.Streams.Causes.{HasCause};
 ghost use Rattle.ep_base.specs.Streams.Io.{Takes};
 ghost use Rattle.ep_program.specs.Headline.{IsReady};
 ghost use Rattle.ep_program.specs.Input.{IsTooLong};
+ghost use Rattle.ep_program.specs.OwnReplay.{ReplaysOwnTrace};
 ghost use Rattle.ep_program.specs.Serve.{Reports, Runs, Serves};
 ghost use Rattle.ep_program.specs.Words.{form_of, reads_input};
 
@@ -66,6 +67,10 @@ use std::alloc::Global;
 /// what was sent differ; both with all that was written until then, and `WriteFault` with a first part of it. The probe isn't
 /// asked.
 ///
+/// Where the trace is that of the document's own run, with the probe that gives on what it gets, the replay is that run told
+/// once more: `Done` comes with the run's text without its log lines, `WriteFault` with a first part of that, and `Mismatch`
+/// doesn't come.
+///
 /// # Checks
 ///
 /// The lines of each lane are allowed where some lines after them complete them to whole poll rounds and links with cards, as
@@ -103,6 +108,8 @@ pub fn serve<S: Source, K: Sink, P: Probe>(
     ensures serves { Serves P.steps (form_of words.now) (S.left input.old)
         (record { written = K.written output.old; probe = P.state probe.old })
         (record { written = K.written output.new; probe = P.state probe.new }) result }
+    ensures own_trace { form_of words.now ≡ Some Form.Replay →
+        ReplaysOwnTrace (S.left input.old) (K.written output.old) (K.written output.new) result }
     ensures whole { result ≡ Status.Done → reads_input (form_of words.now) ≡ true → IsAtEnd (S.left input.new) }
     ensures given { Takes INPUT (S.left input.old) (S.left input.new) (IsTooLong result) }
     ensures untouched { reads_input (form_of words.now) ≡ false →

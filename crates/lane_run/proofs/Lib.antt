@@ -10,6 +10,7 @@ pub mod Finishing
 pub mod Growing
 pub mod Halting
 pub mod Hearing
+pub mod LineForms
 pub mod Machining
 pub mod Matching
 pub mod Numbering
@@ -19,8 +20,10 @@ pub mod Playing
 pub mod Reporting
 pub mod Results
 pub mod Running
+pub mod Said
 pub mod Stepping
 pub mod Steps
 pub mod Stopping
 pub mod Talks
+pub mod Telling
 pub mod Texts

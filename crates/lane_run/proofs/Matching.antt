@@ -14,6 +14,7 @@ use Rattle.ep_claim.specs.Text.TraceLine.{Shown, TraceLine}
 use Rattle.ep_claim.specs.Text.WrittenText.{event_lines}
 use Rattle.ep_base.specs.declared.air.Wave.{Wave}
 use Rattle.ep_base.specs.declared.air.Wave.TheVariants.{AShort, ABare, A, B}
+use Rattle.ep_claim.specs.Lanes.Ending.{HasEnded}
 use Rattle.ep_claim.specs.Lanes.Exchanges.{Lane, field_answers, or_silence}
 use Rattle.ep_claim.specs.Lanes.Standing.{Standing, asked_by, events_of, started}
 use Rattle.ep_claim.specs.Lanes.LaneText.{Going, Job, added_events, heard_lane, traced_as}
@@ -27,9 +28,11 @@ use Rattle.scenario.specs.Scenario.{Work}
 use Rattle.lane_run.specs.Works.{all_jobs}
 use Rattle.lane_run.specs.Waiting.{ReplayPiece, Waiting, heard_piece, replay_opens, replay_opens_by, replay_goes_on}
 use Rattle.lane_run.proofs.Machining.{machine_is}
-use Rattle.lane_run.specs.OwnTrace.{OwnTraceMatches, SameTalks, line_at, line_by, line_in, lines_of, said_after, said_at, said_by, said_first, said_in, said_of, said_on, said_opening, talks_of_lanes}
+use Rattle.lane_run.specs.OwnTrace.{OwnTraceMatches, SameTalks, line_at, line_by, line_in, lines_of, own_lines, own_run, talks_of_lanes}
+use Rattle.lane_run.proofs.Said.{said_after, said_at, said_by, said_first, said_in, said_of, said_on, said_opening}
+use Rattle.lane_run.proofs.Telling.{own_said, said_is}
 use Rattle.lane_run.specs.Talks.{talks_of}
-use Rattle.ep_claim.specs.Lanes.WholeReplay.{compared_at, turn_unless}
+use Rattle.ep_claim.specs.Lanes.WholeReplay.{ReplayEnds, compared_at, turn_unless}
 use Rattle.lane_run.specs.Machine.{LaneReplay, machine_after, opened_replay, replay_hears, replay_lanes, replay_opening, replay_step, turn_in}
 use Rattle.lane_run.specs.Machine as replays
 
@@ -258,8 +261,9 @@ module _ (traced : Bool) (fsdi : ℕ) where
         subst (λ t. Follows fsdi (times (run_step traced open_probe fsdi count) n next) (times (replay_step fsdi count) n (replay_step fsdi count r)) more t)
         (append_assoc text said (said_of traced fsdi count n next)) (steps_follow n next (replay_step fsdi count r) more (text ++ said) first)
 
-pub own_trace_law : OwnTraceMatches
-own_trace_law traced fsdi turns lanes n over =
+own_said_ends : (traced : Bool) (fsdi : ℕ) (turns : List ℕ) (lanes : List (List Job)) (n : ℕ) → HasEnded (length lanes) (own_run traced fsdi turns lanes n)
+    → ReplayEnds fsdi turns (own_lines traced fsdi turns lanes n) (talks_of_lanes lanes) None (own_said traced fsdi turns lanes n)
+own_said_ends traced fsdi turns lanes n over =
     let count = length lanes in
     let begun = opened_run fsdi turns tt lanes in
     let lines = lines_of traced fsdi count n begun in
@@ -288,6 +292,11 @@ own_trace_law traced fsdi turns lanes n over =
       mismatch_is = sym (ap (λ (b : Bool × Replaying). b.1.failure) done ∙ end.well);
       text_is = sym end.said;
     })).0
+
+pub own_trace_law : OwnTraceMatches
+own_trace_law traced fsdi turns lanes n over =
+    subst (λ text. ReplayEnds fsdi turns (own_lines traced fsdi turns lanes n) (talks_of_lanes lanes) None text) (sym (said_is traced fsdi turns lanes n))
+    (own_said_ends traced fsdi turns lanes n over)
 
 -- ---- the lanes of a report
 

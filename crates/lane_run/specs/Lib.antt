@@ -7,6 +7,7 @@ pub mod Made
 pub mod OwnTrace
 pub mod Played
 pub mod Replayed
+pub mod ReportLines
 pub mod Reports
 pub mod Shows
 pub mod Stopping

@@ -1,5 +1,5 @@
 //! Laws of replays of several lanes, each the contract of a function that does nothing.
-ghost use Rattle.lane_run.specs.OwnTrace.{OwnTraceMatches, SameTalks};
+ghost use Rattle.lane_run.specs.OwnTrace.{OwnTraceMatches, RunsTellTraces, SameTalks};
 ghost use Rattle.lane_run.specs.Stopping.{MismatchesDiffer, OneEnd, ReplaysStay, ReplaysStop, TextsGrow};
 
 /// A replay has stopped after one exchange more than its trace has lines.
@@ -28,7 +28,13 @@ pub fn texts_grow()
     ensures { TextsGrow }
 {}
 
-/// The trace of a run that is over is matched by the replay of its lanes, which writes the events of the run without its log
+/// A run that tells its trace writes the text of the run that doesn't, with trace lines between: the lines of its exchanges, in
+/// their order. No probe alters a hearing.
+pub fn runs_tell_traces()
+    ensures { RunsTellTraces }
+{}
+
+/// The trace of a run that is over is matched by the replay of its lanes, which writes the text of the run without its log
 /// lines. No probe alters a hearing of the run, and the order of its exchanges is any.
 ///
 /// What lanes have to do says and asks the same in a report as in a replay.
