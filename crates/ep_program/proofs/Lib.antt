@@ -7,4 +7,5 @@ pub mod OwnReplays
 pub mod Promising
 pub mod Ready
 pub mod Replaying
+pub mod Traces
 pub mod Within

@@ -132,7 +132,7 @@ module _ (bytes : List ℕ) (before after : Option (List ℕ)) (p : Plan) (lines
   by_run status r =
       (
         text,
-        is_text open_probe false (scenario_of p) tt text tt (is_ready p (accepted_plan gives.0 p gives.1)) (has_run (scenario_of p) lines own),
+        is_text open_probe false (scenario_of p) tt text tt (is_ready gives.0 p gives.1 (accepted_plan gives.0 p gives.1)) (has_run (scenario_of p) lines own),
         answers status r,
       )
 

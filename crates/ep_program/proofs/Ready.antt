@@ -1,6 +1,6 @@
 -- The transactions of an accepted document may begin, and a run of them that was written is served.
-use Rattle.std.proofs.Common.{◌≡◌, ℕ, ◌+◌, ◌<◌, ◌≤◌, ◌==◌, ◌*◌, Bool, List, [], ◌∷◌, length, map, filter, refl, ap, ◌∙◌, sym, subst, arith}
-use Rattle.std.specs.Prelude.{All}
+use Rattle.std.proofs.Common.{◌≡◌, ℕ, ◌+◌, ◌<◌, ◌≤◌, ◌==◌, ◌*◌, Bool, true, List, [], ◌∷◌, length, map, filter, refl, ap, ◌∙◌, sym, subst, arith}
+use Rattle.std.specs.Prelude.{All, Ok}
 use Rattle.std.specs.declared.option.Option.{Option}
 use Rattle.std.specs.Io.KnownBytes.{Appends}
 use Rattle.std.proofs.lemmas.List.{length-map}
@@ -12,25 +12,30 @@ use Rattle.ep_base.specs.declared.limits.TheConstants.{LANES, NAMED, TRANSACTION
 use Rattle.ep_rules.specs.EntryPoint.Kernel.{steps_left}
 use Rattle.ep_rules.specs.EntryPoint.PreProcessing.{prepared_one, prepared}
 use Rattle.law_radio.proofs.Finding.{new_field_law}
+use Rattle.law_documents.proofs.Meaning.{documents_are_of_bytes_law}
 use Rattle.ep_claim.specs.Lanes.LaneText.{Job}
-use Rattle.ep_claim.specs.Lanes.WholeRun.{ProbeSteps}
+use Rattle.ep_claim.specs.Lanes.WholeRun.{ProbeSteps, Run, opened_run}
+use Rattle.toml.specs.Data.{Members}
 use Rattle.card_table.specs.Placing.{placed_from}
 use Rattle.ep_lanes.specs.Lanes.{Held, new_lanes}
 use Rattle.ep_claim.specs.Lanes.Probing.{ProbeAnswers, Tells}
 use Rattle.lane_run.specs.Reports.{IsFew, IsNewWork}
-use Rattle.ep_claim.specs.Lanes.Ending.{HasRun}
+use Rattle.ep_claim.specs.Lanes.Ending.{HasEnded, HasRun}
 use Rattle.lane_run.specs.Works.{LaneWork, new_work, all_jobs, jobs_of}
 use Rattle.scenario.specs.Accepted.{IsLawful, IsLane, IsAccepted}
 use Rattle.scenario.specs.Jobs.{job_of, jobs_in}
-use Rattle.scenario.specs.Plan.{Transaction, Plan}
+use Rattle.scenario.specs.Plan.{Transaction, Plan, plan}
 use Rattle.scenario.specs.Scenario.{Work, Scenario, room_of, work_of, scenario_of}
 use Rattle.ep_program.specs.Headline.{IsFresh, IsReady}
 use Rattle.ep_program.specs.Input.{Gives, Opens}
-use Rattle.ep_claim.specs.Promise.Run.{HasPromise}
+use Rattle.ep_claim.specs.Promise.Run.{GivesOn, HasPromise}
+use Rattle.lane_run.specs.OwnTrace.{own_run}
+use Rattle.ep_program.specs.RunTrace.{TellsExchanges}
 use Rattle.ep_program.specs.Serve.{Surroundings, IsTextOf, Writes, WritesPart, Reports, Runs}
 use Rattle.ep_program.specs.declared.status.Status.{Status}
 use Rattle.ep_program.specs.declared.status.Status.TheVariants.{Done, ReadFault, WriteFault, NoMemory, Usage, TooLong, NotToml, BadDocument, Mismatch}
-use Rattle.ep_program.proofs.Promising.{MayBegin, may_begin, promised}
+use Rattle.ep_program.proofs.Promising.{MayBegin, may_begin, opened_after, promised}
+use Rattle.ep_program.proofs.Traces.{tells_exchanges}
 use Rattle.ep_program.proofs.Within.{is_bounded_run, keeps_records_free}
 
 -- ---- the transactions of an accepted document may begin
@@ -75,8 +80,9 @@ module _ (settings : Config) (limits : IsConfig settings) (fsdi : ℕ) where
 lane_short : (settings : Config) (lane : List Transaction) → IsLane lane → length (map (work_of settings) lane) ≤ 64
 lane_short settings lane is = subst (λ n. n ≤ TRANSACTIONS) (sym (length-map lane (work_of settings))) is.short
 
-pub is_ready : (p : Plan) → IsAccepted p → IsReady (scenario_of p)
-is_ready p accepted = record {
+pub is_ready : (members : Members) (p : Plan) → plan members ≡ Ok p → IsAccepted p → IsReady (scenario_of p)
+is_ready members p reads accepted = record {
+  bytes = documents_are_of_bytes_law members p reads;
   code = accepted.fsdi;
   few = subst (λ n. n ≤ LANES) (sym (length-map p.lanes (λ lane. map (work_of p.config) lane))) accepted.few;
   short =
@@ -89,7 +95,7 @@ is_ready p accepted = record {
 }
 
 pub opened_ready : (input : Option (List ℕ)) (s : Scenario) → Opens input s → IsReady s
-opened_ready input s opens = let says = opens.1 in subst IsReady (sym says.scene) (is_ready says.document says.accepted)
+opened_ready input s opens = let says = opens.1 in subst IsReady (sym says.scene) (is_ready opens.0 says.document says.reads says.accepted)
 
 -- ---- what lanes have to do before their first transactions
 
@@ -151,6 +157,19 @@ module _ (settings : Config) (fsdi : ℕ) where
       All-map (All (MayBegin fsdi)) (λ lane. map (job_of settings) lane) lanes
       (All-weaker (All (IsFresh settings fsdi)) (λ lane. All (MayBegin fsdi) (map (job_of settings) lane)) jobs_begin lanes fresh)
 
+-- A run that tells its trace, with a probe that gives on what it gets.
+trace_told : {P : Type 0} (steps : ProbeSteps P) (traced : Bool) (s : Scenario) (p : P) (text : List ℕ) (q : P) → IsReady s
+    → HasRun traced steps s.fsdi s.turns p (jobs_in s) text q → GivesOn steps → traced ≡ true → TellsExchanges s text
+trace_told {P} steps traced s p text q ready run gives is =
+    let lanes = jobs_in s in
+    let whole : HasRun true steps s.fsdi s.turns p lanes text q = subst (λ (b : Bool). HasRun b steps s.fsdi s.turns p lanes text q) is run in
+    let same = opened_after steps gives true s.fsdi (length lanes) whole.exchanges (opened_run s.fsdi s.turns p lanes) in
+    let few : length lanes ≤ LANES = subst (λ n. n ≤ LANES) (sym (length-map s.lanes (λ lane. map (job_of s.config) lane))) ready.few in
+    let over : HasEnded (length lanes) (own_run true s.fsdi s.turns lanes whole.exchanges) =
+    subst (λ (r : Run (Unit {0})). HasEnded (length lanes) r) same whole.over in
+    subst (λ t. TellsExchanges s t) (sym (whole.text_is ∙ ap (λ (r : Run (Unit {0})). r.text) same))
+    (tells_exchanges s ready.code few (lanes_begin s.config s.fsdi s.lanes ready.fresh) ready.bytes whole.exchanges over)
+
 pub is_text : {P : Type 0} (steps : ProbeSteps P) (traced : Bool) (s : Scenario) (p : P) (text : List ℕ) (q : P) → IsReady s
     → HasRun traced steps s.fsdi s.turns p (jobs_in s) text q
     → IsTextOf steps traced s p text q
@@ -161,6 +180,7 @@ is_text steps traced s p text q ready run = record {
   promise = λ gives.
       subst (λ t. HasPromise traced s.fsdi s.turns (jobs_in s) t) (sym run.text_is)
       (promised steps traced s.fsdi s.turns p (jobs_in s) run.exchanges gives (lanes_begin s.config s.fsdi s.lanes ready.fresh) run.over);
+  trace = λ gives is. trace_told steps traced s p text q ready run gives is;
 }
 
 module _ {P : Type 0} (answers : ProbeAnswers P) (traced : Bool) (s : Scenario) (ready : IsReady s) (before after : Surroundings P) where

@@ -8,6 +8,8 @@ use Rattle.ep_rules.specs.EntryPoint.Kernel.{scripted}
 use Rattle.ep_rules.specs.EntryPoint.Bounds.{log_bound}
 use Rattle.ep_claim.specs.Promise.Cards.{number_of_card, image_in}
 use Rattle.ep_claim.specs.Promise.Perfection.{IsNew}
+use Rattle.law_lines.specs.Bytes.{JobOfBytes}
+use Rattle.scenario.specs.Jobs.{jobs_in}
 use Rattle.scenario.specs.Scenario.{Work, Scenario}
 use Rattle.lane_run.specs.Reports.{IsFew}
 use Rattle.lane_run.specs.Works.{preparation}
@@ -23,9 +25,11 @@ pub record IsFresh (settings : Config) (fsdi : ℕ) (w : Work) : Type 0 where
   pub few : IsFew settings w
   pub room : log_bound (scripted.restarts w.scripts) (length (preparation settings w).list) (scripted.commands w.scripts) < w.field.room
 
--- A scenario whose transactions may begin: at most `LANES` lanes of at most `TRANSACTIONS` transactions, and an FSDI of at most `FSDI` (this project's own).
+-- A scenario whose transactions may begin, and are made of bytes: at most `LANES` lanes of at most `TRANSACTIONS` transactions, and an FSDI of at most
+-- `FSDI` (this project's own).
 pub record IsReady (s : Scenario) : Type 0 where
   pub code : s.fsdi ≤ FSDI
   pub few : length s.lanes ≤ LANES
   pub short : All (λ lane. length lane ≤ TRANSACTIONS) s.lanes
   pub fresh : All (All (IsFresh s.config s.fsdi)) s.lanes
+  pub bytes : All (All JobOfBytes) (jobs_in s)

@@ -6,6 +6,7 @@ pub mod Inventory
 pub mod Load
 pub mod OwnReplay
 pub mod Replay
+pub mod RunTrace
 pub mod Serve
 pub mod Status
 pub mod Words

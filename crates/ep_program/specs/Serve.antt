@@ -16,6 +16,7 @@ use Rattle.ep_program.specs.Inventory.{Inventories}
 use Rattle.ep_program.specs.Load.{Loads}
 use Rattle.ep_claim.specs.Promise.Run.{GivesOn, HasPromise}
 use Rattle.ep_program.specs.Replay.{Replays}
+use Rattle.ep_program.specs.RunTrace.{TellsExchanges}
 use Rattle.ep_program.specs.declared.status.Status.{Status}
 use Rattle.ep_program.specs.declared.status.Status.TheVariants.{Done, ReadFault, WriteFault, NoMemory, Usage, TooLong, NotToml, BadDocument, Mismatch}
 use Rattle.ep_program.specs.declared.form.Form.{Form}
@@ -27,12 +28,13 @@ pub record Surroundings (P : Type 0) : Type 0 where
   pub probe : P
 
 -- The text of a scenario's run with a probe of these steps, which leaves the probe in this state; the run stays within its bounds, and where the probe
--- gives on what it gets a record is always free, and the text has the promise (this project's own).
+-- gives on what it gets a record is always free, the text has the promise, and a trace in it tells the exchanges (this project's own).
 pub record IsTextOf {P : Type 0} (steps : ProbeSteps P) (traced : Bool) (s : Scenario) (p : P) (text : List ℕ) (q : P) : Type 0 where
   pub run : HasRun traced steps s.fsdi s.turns p (jobs_in s) text q
   pub bounded : IsBoundedRun traced steps s p
   pub free : GivesOn steps → KeepsRecordsFree traced steps s p
   pub promise : GivesOn steps → HasPromise traced s.fsdi s.turns (jobs_in s) text
+  pub trace : GivesOn steps → traced ≡ true → TellsExchanges s text
 
 -- The whole text of a scenario's run was appended, and the probe is as the run leaves it, where the probe has these steps (this project's own).
 abbrev pub Writes : {P : Type 0} → ProbeAnswers P → Bool → Scenario → (before after : Surroundings P) → Type 0
