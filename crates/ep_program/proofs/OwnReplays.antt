@@ -13,7 +13,9 @@ use Rattle.ep_claim.specs.Lanes.LaneText.{Job}
 use Rattle.ep_claim.specs.Lanes.ReplayRun as traces
 use Rattle.ep_claim.specs.Lanes.WholeReplay.{ReplayEnds}
 use Rattle.ep_claim.specs.Lanes.WholeRun.{open_probe}
-use Rattle.ep_claim.specs.Text.TraceLine.{TraceLine}
+use Rattle.ep_claim.specs.Text.TraceLine.{TraceLine, trace_text}
+use Rattle.law_documents.specs.Traced.{with_trace}
+use Rattle.law_documents.proofs.Tracing.{written_traces_are_read_law}
 use Rattle.lane_run.specs.OwnTrace.{own_lines, own_run, talks_of_lanes}
 use Rattle.lane_run.specs.ReportLines.{without_log}
 use Rattle.lane_run.proofs.Matching.{own_trace_law}
@@ -23,12 +25,13 @@ use Rattle.scenario.specs.Plan.{Plan, plan}
 use Rattle.scenario.specs.Scenario.{Work, Scenario, scenario_of}
 use Rattle.scenario.proofs.Accepted.{accepted_plan}
 use Rattle.ep_program.specs.Input.{Gives, IsInput}
-use Rattle.ep_program.specs.OwnReplay.{AnswersByRun, AnswersOwn, IsOwnTrace, ReplaysOwnTrace}
+use Rattle.ep_program.specs.OwnReplay.{AnswersByRun, AnswersOwn, IsOwnTrace, ReplaysOwnTrace, ReplaysRecorded}
 use Rattle.ep_program.specs.Replay.{GivesTrace, Replays, WritesReplay, WritesReplayPart, replay_plan, trace_lines}
+use Rattle.ep_program.specs.RunTrace.{exchanges_in}
 use Rattle.ep_program.specs.Serve.{IsTextOf}
 use Rattle.ep_program.specs.declared.status.Status.{Status}
 use Rattle.ep_program.specs.declared.status.Status.TheVariants.{Done, ReadFault, WriteFault, NoMemory, Usage, TooLong, NotToml, BadDocument, Mismatch}
-use Rattle.ep_program.proofs.Ready.{is_ready, is_text}
+use Rattle.ep_program.proofs.Ready.{exchanges_held, is_ready, is_text}
 use Rattle.ep_program.proofs.Replaying.{with_lines}
 
 -- ---- the talks of a scenario's lanes
@@ -140,3 +143,17 @@ module _ (bytes : List ℕ) (before after : Option (List ℕ)) (p : Plan) (lines
 pub own_replay : (input before after : Option (List ℕ)) (status : Status) → Replays input before after status → ReplaysOwnTrace input before after status
 own_replay None before after status r = tt
 own_replay (Some bytes) before after status r = λ p lines gives trace own. by_run bytes before after p lines gives trace own status r
+
+-- So is a replay of a document that was given the written trace of its run.
+pub recorded_replay : (input before after : Option (List ℕ)) (status : Status) → Replays input before after status → ReplaysRecorded input before after status
+recorded_replay None before after status r = tt
+recorded_replay (Some bytes) before after status r = λ members p n reads over few short document.
+    let ready = is_ready members p reads (accepted_plan members p reads) in
+    let lines = exchanges_in (scenario_of p) n in
+    let q : Plan = record p { trace = Some lines } in
+    let means : plan (with_trace members (map trace_text lines)) ≡ Ok q =
+    written_traces_are_read_law members p lines reads (exchanges_held (scenario_of p) ready n) few in
+    let gives : Gives (Some bytes) q = (with_trace members (map trace_text lines), means, short, document) in
+    let own : IsOwnTrace (scenario_of q) lines = record { exchanges = n; over = over; lines_are = refl } in
+    let (text, is, answered) = by_run bytes before after q lines gives refl own status r in
+    (text, is_text open_probe false (scenario_of p) tt text tt ready is.run, answered)

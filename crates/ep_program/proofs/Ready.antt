@@ -29,13 +29,14 @@ use Rattle.scenario.specs.Scenario.{Work, Scenario, room_of, work_of, scenario_o
 use Rattle.ep_program.specs.Headline.{IsFresh, IsReady}
 use Rattle.ep_program.specs.Input.{Gives, Opens}
 use Rattle.ep_claim.specs.Promise.Run.{GivesOn, HasPromise}
+use Rattle.ep_claim.specs.Text.TraceForm.{HoldsLine}
 use Rattle.lane_run.specs.OwnTrace.{own_run}
-use Rattle.ep_program.specs.RunTrace.{TellsExchanges}
+use Rattle.ep_program.specs.RunTrace.{TellsExchanges, exchanges_in}
 use Rattle.ep_program.specs.Serve.{Surroundings, IsTextOf, Writes, WritesPart, Reports, Runs}
 use Rattle.ep_program.specs.declared.status.Status.{Status}
 use Rattle.ep_program.specs.declared.status.Status.TheVariants.{Done, ReadFault, WriteFault, NoMemory, Usage, TooLong, NotToml, BadDocument, Mismatch}
 use Rattle.ep_program.proofs.Promising.{MayBegin, may_begin, opened_after, promised}
-use Rattle.ep_program.proofs.Traces.{tells_exchanges}
+use Rattle.ep_program.proofs.Traces.{lines_held, tells_exchanges}
 use Rattle.ep_program.proofs.Within.{is_bounded_run, keeps_records_free}
 
 -- ---- the transactions of an accepted document may begin
@@ -169,6 +170,12 @@ trace_told {P} steps traced s p text q ready run gives is =
     subst (λ (r : Run (Unit {0})). HasEnded (length lanes) r) same whole.over in
     subst (λ t. TellsExchanges s t) (sym (whole.text_is ∙ ap (λ (r : Run (Unit {0})). r.text) same))
     (tells_exchanges s ready.code few (lanes_begin s.config s.fsdi s.lanes ready.fresh) ready.bytes whole.exchanges over)
+
+-- Its exchanges can be held by trace lines.
+pub exchanges_held : (s : Scenario) → IsReady s → (n : ℕ) → All HoldsLine (exchanges_in s n)
+exchanges_held s ready n =
+    let few : length (jobs_in s) ≤ LANES = subst (λ k. k ≤ LANES) (sym (length-map s.lanes (λ lane. map (job_of s.config) lane))) ready.few in
+    lines_held s ready.code few (lanes_begin s.config s.fsdi s.lanes ready.fresh) ready.bytes n
 
 pub is_text : {P : Type 0} (steps : ProbeSteps P) (traced : Bool) (s : Scenario) (p : P) (text : List ℕ) (q : P) → IsReady s
     → HasRun traced steps s.fsdi s.turns p (jobs_in s) text q

@@ -5,7 +5,7 @@ ghost use Rattle.ep_base.specs.Streams.Causes.{HasCause};
 ghost use Rattle.ep_base.specs.Streams.Io.{Takes};
 ghost use Rattle.ep_program.specs.Headline.{IsReady};
 ghost use Rattle.ep_program.specs.Input.{IsTooLong};
-ghost use Rattle.ep_program.specs.OwnReplay.{ReplaysOwnTrace};
+ghost use Rattle.ep_program.specs.OwnReplay.{ReplaysOwnTrace, ReplaysRecorded};
 ghost use Rattle.ep_program.specs.Replay.{Plays, Replays};
 
 use crate::input::read;
@@ -22,6 +22,7 @@ use trace_io::Replay;
 pub fn replay_document<S: Source, K: Sink>(alloc: Global, input: &mut S, output: &mut K) -> Status
     ensures replays { Replays (S.left input.old) (K.written output.old) (K.written output.new) result }
     ensures own_trace { ReplaysOwnTrace (S.left input.old) (K.written output.old) (K.written output.new) result }
+    ensures recorded { ReplaysRecorded (S.left input.old) (K.written output.old) (K.written output.new) result }
     ensures whole { result ≡ Status.Done → IsAtEnd (S.left input.new) }
     ensures given { Takes INPUT (S.left input.old) (S.left input.new) (IsTooLong result) }
     ensures read_cause { HasCause (S.faults input.old) (S.faults input.new) (result ≡ Status.ReadFault) }

@@ -5,7 +5,7 @@ ghost use Rattle.ep_base.specs.Streams.Causes.{HasCause};
 ghost use Rattle.ep_base.specs.Streams.Io.{Takes};
 ghost use Rattle.ep_program.specs.Headline.{IsReady};
 ghost use Rattle.ep_program.specs.Input.{IsTooLong};
-ghost use Rattle.ep_program.specs.OwnReplay.{ReplaysOwnTrace};
+ghost use Rattle.ep_program.specs.OwnReplay.{ReplaysOwnTrace, ReplaysRecorded};
 ghost use Rattle.ep_program.specs.Serve.{Reports, Runs, Serves};
 ghost use Rattle.ep_program.specs.Words.{form_of, reads_input};
 
@@ -110,6 +110,8 @@ pub fn serve<S: Source, K: Sink, P: Probe>(
         (record { written = K.written output.new; probe = P.state probe.new }) result }
     ensures own_trace { form_of words.now ≡ Some Form.Replay →
         ReplaysOwnTrace (S.left input.old) (K.written output.old) (K.written output.new) result }
+    ensures recorded { form_of words.now ≡ Some Form.Replay →
+        ReplaysRecorded (S.left input.old) (K.written output.old) (K.written output.new) result }
     ensures whole { result ≡ Status.Done → reads_input (form_of words.now) ≡ true → IsAtEnd (S.left input.new) }
     ensures given { Takes INPUT (S.left input.old) (S.left input.new) (IsTooLong result) }
     ensures untouched { reads_input (form_of words.now) ≡ false →
