@@ -17,7 +17,7 @@ use Rattle.ep_claim.specs.Lanes.Order.{Order, next_turn}
 use Rattle.ep_claim.specs.Lanes.Standing.{asked_by, events_of, started}
 use Rattle.ep_claim.specs.Lanes.Steps.{times}
 use Rattle.ep_claim.specs.Lanes.WholeRun.{Run, is_live, makes_exchange, open_probe, opened_run, opening_text, run_step, takes_turn, turn_of}
-use Rattle.lane_run.specs.OwnTrace.{RunsTellTraces, line_at, line_by, line_in, lines_of, own_lines, own_run}
+use Rattle.lane_run.specs.OwnTrace.{OneTrace, RunsTellTraces, line_at, line_by, line_in, lines_of, own_lines, own_run}
 use Rattle.lane_run.specs.ReportLines.{is_log_line, is_trace_line, lines_in, trace_in, without_log, without_trace}
 use Rattle.lane_run.proofs.LineForms.{IsLine, event_line, record_line, traced_line}
 use Rattle.lane_run.proofs.Said.{said_after, said_at, said_by, said_first, said_in, said_of, said_on, said_opening}
@@ -293,3 +293,22 @@ runs_tell_traces_law fsdi turns lanes n =
       between = b.tells.between;
       trace = b.tells.trace;
     }
+
+-- ---- a run that is over has no more lines
+
+module _ (traced : Bool) (fsdi count : ℕ) where
+  none_left : (n : ℕ) (run : Run (Unit {0})) → HasEnded count run → lines_of traced fsdi count n run ≡ []
+  none_left zero run over = refl
+  none_left (suc n) run over =
+      ap (λ t. line_at fsdi run t ++ lines_of traced fsdi count n (takes_turn traced open_probe fsdi t run)) over ∙ none_left n run over
+
+  same_lines : (m n : ℕ) (run : Run (Unit {0})) → HasEnded count (times (run_step traced open_probe fsdi count) m run)
+      → HasEnded count (times (run_step traced open_probe fsdi count) n run) → lines_of traced fsdi count m run ≡ lines_of traced fsdi count n run
+  same_lines zero n run first second = sym (none_left n run first)
+  same_lines (suc m) zero run first second = none_left (suc m) run second
+  same_lines (suc m) (suc n) run first second =
+      ap (λ ls. line_at fsdi run (next_turn (is_live run) count run.order) ++ ls) (same_lines m n (run_step traced open_probe fsdi count run) first second)
+
+pub one_trace_law : OneTrace
+one_trace_law traced fsdi turns lanes m n first second =
+    same_lines traced fsdi (length lanes) m n (opened_run fsdi turns tt lanes) first second

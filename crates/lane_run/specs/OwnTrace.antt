@@ -60,6 +60,13 @@ pub record TellsTrace (fsdi : ℕ) (turns : List ℕ) (lanes : List (List Job)) 
 abbrev pub RunsTellTraces : Type 0
 RunsTellTraces = (fsdi : ℕ) (turns : List ℕ) (lanes : List (List Job)) (n : ℕ) → TellsTrace fsdi turns lanes n
 
+-- The trace of a run that is over is the same at any two counts of exchanges at which it is over (this project's own).
+abbrev pub OneTrace : Type 0
+OneTrace =
+    (traced : Bool) (fsdi : ℕ) (turns : List ℕ) (lanes : List (List Job)) (m n : ℕ) →
+    HasEnded (length lanes) (own_run traced fsdi turns lanes m) → HasEnded (length lanes) (own_run traced fsdi turns lanes n) →
+    own_lines traced fsdi turns lanes m ≡ own_lines traced fsdi turns lanes n
+
 -- The trace of a run that is over is matched by the replay of its lanes, which writes the run's text without its log lines, whatever the order of the
 -- exchanges (this project's own).
 abbrev pub OwnTraceMatches : Type 0

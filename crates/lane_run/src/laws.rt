@@ -1,5 +1,5 @@
 //! Laws of replays of several lanes, each the contract of a function that does nothing.
-ghost use Rattle.lane_run.specs.OwnTrace.{OwnTraceMatches, RunsTellTraces, SameTalks};
+ghost use Rattle.lane_run.specs.OwnTrace.{OneTrace, OwnTraceMatches, RunsTellTraces, SameTalks};
 ghost use Rattle.lane_run.specs.Stopping.{MismatchesDiffer, OneEnd, ReplaysStay, ReplaysStop, TextsGrow};
 
 /// A replay has stopped after one exchange more than its trace has lines.
@@ -32,6 +32,11 @@ pub fn texts_grow()
 /// their order. No probe alters a hearing.
 pub fn runs_tell_traces()
     ensures { RunsTellTraces }
+{}
+
+/// A run that is over has one trace, whatever count of exchanges it is told at.
+pub fn one_trace()
+    ensures { OneTrace }
 {}
 
 /// The trace of a run that is over is matched by the replay of its lanes, which writes the text of the run without its log

@@ -18,8 +18,8 @@ mod writing;
 pub use ending::ReplayEnd;
 pub use jobs::{LaneJobs, works_of};
 pub use laws::{
-    mismatches_differ, one_end, own_trace_matches, replays_stay, replays_stop, runs_tell_traces,
-    texts_grow,
+    mismatches_differ, one_end, one_trace, own_trace_matches, replays_stay, replays_stop,
+    runs_tell_traces, texts_grow,
 };
 pub use replaying::replay_lanes;
 pub use run::report_lanes;
