@@ -1,5 +1,5 @@
 -- The check of an accepted document's trace.
-use Rattle.std.proofs.Common.{◌≡◌, ◌∙◌, ℕ, ◌≤◌, ℤ, List, [], length, codes, sym, subst, ap, Option, Some, None, Result, Ok, Err, refl}
+use Rattle.std.proofs.Common.{◌≡◌, ◌∙◌, ℕ, ◌≤◌, ℤ, List, [], length, codes, sym, subst, ap, option_map, Option, Some, None, Result, Ok, Err, refl}
 use Rattle.std.specs.Prelude.{All, ⊤}
 use Rattle.std.specs.Option.{ForSome}
 use Rattle.std.specs.Io.KnownBytes.{Appends, Keeps}
@@ -94,3 +94,7 @@ judged_not_long s before after TooLong r h = absurd r
 judged_not_long s before after NotToml r h = absurd h
 judged_not_long s before after (BadDocument f) r h = absurd h
 judged_not_long s before after (Mismatch m) r h = absurd h
+
+-- What holds of a scenario's trace, where there is one, holds of the lines that it is made of.
+pub of_lines : {V : Type 0} (f : V → List TraceLine) (P : List TraceLine → Type 0) (o : Option V) (v : V) → o ≡ Some v → ForSome (option_map f o) P → P (f v)
+of_lines f P o v e h = subst (λ t. ForSome (option_map f t) P) e h

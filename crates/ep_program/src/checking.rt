@@ -1,9 +1,12 @@
 //! The check of a document's trace.
-ghost use Rattle.std.specs.Prelude.{◌≡◌, ◌≤◌, ◌<◌, ◌^◌, ◌++◌, ℕ, [], length, codes, decimal};
+ghost use Rattle.std.specs.Prelude.{◌≡◌, ◌≤◌, [], All, length, map};
 ghost use Rattle.std.specs.Io.KnownBytes.{IsAtEnd};
 ghost use Rattle.ep_base.specs.Streams.Causes.{HasCause};
 ghost use Rattle.ep_base.specs.Streams.Io.{Takes};
-ghost use Rattle.ep_program.specs.Check.{Checks, IsCheckable, Judges, bad_text, good_text, rule_word};
+ghost use Rattle.ep_program.specs.Check.{Checks, IsCheckText, IsCheckable, Judges, bad_text, good_text, rule_word};
+ghost use Rattle.ep_base.specs.declared.limits.TheConstants.{FSDI, TRACE_LINES};
+ghost use Rattle.trace_check.specs.Verdicts.{HasLane};
+ghost use Rattle.trace_io.specs.Meaning.{traced_of};
 ghost use Rattle.ep_program.specs.Input.{IsTooLong};
 
 use crate::input::read;
@@ -13,7 +16,7 @@ use ep_base::{INPUT, Line, Sink, Source, push_all};
 use scenario::Scenario;
 use std::alloc::Global;
 use trace_check::{Rule, Verdict, check_trace};
-use trace_io::push_number;
+use trace_io::{TraceLine, push_number};
 
 /// Reads a document with a trace and says whether its lines are allowed.
 pub fn check_document<S: Source, K: Sink>(alloc: Global, input: &mut S, output: &mut K) -> Status
@@ -46,13 +49,24 @@ fn judge<K: Sink>(scenario: Scenario, output: &mut K) -> Status
         return Status::BadDocument(Path::root().key("trace").fault(DocKind::Missing, 0));
     };
     let mut line = Line::new();
-    match check_trace(&lines, fsdi) {
-        Ok(()) => push_good(lines.len() as u32, &mut line),
-        Err(verdict) => push_bad(&verdict, &mut line),
-    }
+    push_judgement(&lines, fsdi, &mut line);
     match push_all(output, line.as_str().as_bytes()) {
         Ok(()) => Status::Done,
         Err(_) => Status::WriteFault,
+    }
+}
+
+// The line of a trace.
+fn push_judgement(lines: &[TraceLine], fsdi: u8, out: &mut Line)
+    requires code { fsdi ≤ FSDI }
+    requires few { length lines.now ≤ TRACE_LINES }
+    requires lanes { All HasLane (map traced_of lines.now) }
+    requires empty { out.old.bytes ≡ [] }
+    ensures { IsCheckText fsdi (map traced_of lines.now) out.new.bytes }
+{
+    match check_trace(lines, fsdi) {
+        Ok(()) => push_good(lines.len() as u32, out),
+        Err(verdict) => push_bad(&verdict, out),
     }
 }
 

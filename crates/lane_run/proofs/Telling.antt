@@ -95,7 +95,7 @@ module _ (traced : Bool) where
   }
 
   none_told : [] ≡ told traced []
-  none_told = elim traced as (λ (b : Bool). [] ≡ told b []) [ | true ↦ refl | false ↦ refl ]
+  none_told = elim traced as (λ (b : Bool). [] ≡ told b []) [ true ↦ refl | false ↦ refl ]
 
   nothing : Tells traced [] [] [] []
   nothing = record { whole = λ rest. refl; plainly = λ rest. refl; between = refl; left = refl; trace = none_told }
