@@ -97,4 +97,4 @@ judged_not_long s before after (Mismatch m) r h = absurd h
 
 -- What holds of a scenario's trace, where there is one, holds of the lines that it is made of.
 pub of_lines : {V : Type 0} (f : V → List TraceLine) (P : List TraceLine → Type 0) (o : Option V) (v : V) → o ≡ Some v → ForSome (option_map f o) P → P (f v)
-of_lines f P o v e h = subst (λ t. ForSome (option_map f t) P) e h
+of_lines f P o v e h = (subst (λ t. ForSome (option_map f t) P) e h) (f v) refl

@@ -2,6 +2,7 @@
 use Rattle.std.proofs.Common.{◌≡◌, ◌≤◌, ℕ, true, false, List, [], ◌∷◌, length, map, refl, sym, ap, subst, ◌∙◌, arith, unwrap_or, Option, Some, None, Result, Ok, Err}
 use Rattle.std.specs.Prelude.{IfSome}
 use Rattle.std.specs.Io.KnownBytes.{Appends, Keeps}
+use Rattle.std.proofs.KnownBytes.{Keeps-refl}
 use Rattle.toml.specs.Data.{Members}
 use Rattle.doc_table.specs.Fault.{Fault}
 use Rattle.ep_rules.specs.EntryPoint.Configuration.{Config}
@@ -24,7 +25,7 @@ use Rattle.scenario.specs.Jobs.{job_of, jobs_in, talk_in, talks_in}
 use Rattle.scenario.specs.Plan.{Plan, plan}
 use Rattle.scenario.specs.Scenario.{Work, Scenario, scenario_of}
 use Rattle.scenario.proofs.Accepted.{accepted_plan}
-use Rattle.ep_program.specs.Input.{Gives, IsInput}
+use Rattle.ep_program.specs.Input.{Gives, IsInput, Refuses}
 use Rattle.ep_program.specs.OwnReplay.{AnswersByRun, AnswersOwn, IsOwnTrace, ReplaysOwnTrace, ReplaysRecorded}
 use Rattle.ep_program.specs.Replay.{GivesTrace, Replays, WritesReplay, WritesReplayPart, replay_plan, trace_lines}
 use Rattle.ep_program.specs.RunTrace.{exchanges_in}
@@ -32,7 +33,7 @@ use Rattle.ep_program.specs.Serve.{IsTextOf}
 use Rattle.ep_program.specs.declared.status.Status.{Status}
 use Rattle.ep_program.specs.declared.status.Status.TheVariants.{Done, ReadFault, WriteFault, NoMemory, Usage, TooLong, NotToml, BadDocument, Mismatch}
 use Rattle.ep_program.proofs.Ready.{exchanges_held, is_ready, is_text}
-use Rattle.ep_program.proofs.Replaying.{with_lines}
+use Rattle.ep_program.proofs.Replaying.{refused, with_lines}
 
 -- ---- the talks of a scenario's lanes
 
@@ -153,7 +154,11 @@ recorded_replay (Some bytes) before after status r = λ members p n reads over f
     let q : Plan = record p { trace = Some lines } in
     let means : plan (with_trace members (map trace_text lines)) ≡ Ok q =
     written_traces_are_read_law members p lines reads (exchanges_held (scenario_of p) ready n) few in
-    let gives : Gives (Some bytes) q = (with_trace members (map trace_text lines), means, short, document) in
+    let gives : Gives (Some bytes) q = (with_trace members (map trace_text lines), means, (short, document)) in
     let own : IsOwnTrace (scenario_of q) lines = record { exchanges = n; over = over; lines_are = refl } in
     let (text, is, answered) = by_run bytes before after q lines gives refl own status r in
     (text, is_text open_probe false (scenario_of p) tt text tt ready is.run, answered)
+
+-- So it is of an input that gave nothing.
+pub refused_replay : (input written : Option (List ℕ)) (status : Status) → Refuses input status → Replays input written written status
+refused_replay input written status why = refused input written written status why (Keeps-refl written)
