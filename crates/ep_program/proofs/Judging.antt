@@ -1,14 +1,10 @@
 -- The check of an accepted document's trace.
-use Rattle.std.proofs.Common.{◌≡◌, ◌∙◌, ℕ, ◌≤◌, ℤ, List, [], length, codes, sym, subst, ap, option_map, Option, Some, None, Result, Ok, Err, refl}
-use Rattle.std.specs.Prelude.{All, ⊤}
+use Rattle.std.proofs.Common.{◌≡◌, ℕ, ℤ, List, [], length, codes, sym, subst, option_map, Option, Some, None, Ok, Err, refl}
+use Rattle.std.specs.Prelude.{All}
 use Rattle.std.specs.Option.{ForSome}
-use Rattle.std.specs.Io.KnownBytes.{Appends, Keeps}
 use Rattle.ep_base.specs.declared.limits.TheConstants.{TRACE_LINES}
-use Rattle.ep_base.specs.Streams.Io.{AppendsPrefix}
 use Rattle.toml.specs.Data.{Members, as_str}
-use Rattle.ep_claim.specs.Text.TraceForm.{SpellsLine}
-use Rattle.ep_claim.specs.Text.TraceLine.{TraceLine, read_trace_line}
-use Rattle.doc_table.specs.Fault.{Fault}
+use Rattle.ep_claim.specs.Text.TraceLine.{TraceLine}
 use Rattle.doc_table.specs.Read.{Place, place_of, required, defaulted, integer_in, allowed, of_kind, list_of}
 use Rattle.doc_table.specs.declared.list.ElementKind.TheVariants as elements
 use Rattle.doc_table.proofs.Accepted.{Accepts, after, accepted_optional, accepted_list}
@@ -21,7 +17,7 @@ use Rattle.scenario.specs.Plan.{Plan, lanes_at, plan, plan_at, root_keys}
 use Rattle.scenario.specs.Scenario.{Scenario, scenario_of}
 use Rattle.scenario.specs.Turns.{turns_at}
 use Rattle.ep_program.specs.Check.{Checks, IsCheckable, Judges}
-use Rattle.ep_program.specs.Input.{Gives, Opens, Refuses, IsTooLong}
+use Rattle.ep_program.specs.Input.{Gives, Opens, IsTooLong}
 use Rattle.ep_program.specs.declared.status.Status.{Status}
 use Rattle.ep_program.specs.declared.status.Status.TheVariants.{Done, ReadFault, WriteFault, NoMemory, Usage, TooLong, NotToml, BadDocument, Mismatch}
 use Rattle.ep_program.proofs.Replaying.{with_lines}

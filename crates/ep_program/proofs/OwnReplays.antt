@@ -1,15 +1,13 @@
 -- A replay of the trace of a document's own run.
 use Rattle.std.proofs.Common.{◌≡◌, ◌≤◌, ℕ, true, false, List, [], ◌∷◌, length, map, refl, sym, ap, subst, ◌∙◌, arith, unwrap_or, Option, Some, None, Result, Ok, Err}
-use Rattle.std.specs.Prelude.{IfSome}
-use Rattle.std.specs.Io.KnownBytes.{Appends, Keeps}
+use Rattle.std.specs.Io.KnownBytes.{Appends}
 use Rattle.std.proofs.KnownBytes.{Keeps-refl}
 use Rattle.toml.specs.Data.{Members}
 use Rattle.doc_table.specs.Fault.{Fault}
 use Rattle.ep_rules.specs.EntryPoint.Configuration.{Config}
-use Rattle.ep_rules.specs.EntryPoint.Talk.{Talk}
 use Rattle.ep_base.specs.Streams.Io.{AppendsPrefix}
 use Rattle.ep_base.specs.declared.limits.TheConstants.{INPUT}
-use Rattle.ep_claim.specs.Lanes.Ending.{HasEnded, HasRun}
+use Rattle.ep_claim.specs.Lanes.Ending.{HasRun}
 use Rattle.ep_claim.specs.Lanes.LaneText.{Job}
 use Rattle.ep_claim.specs.Lanes.ReplayRun as traces
 use Rattle.ep_claim.specs.Lanes.WholeReplay.{ReplayEnds}
@@ -17,7 +15,7 @@ use Rattle.ep_claim.specs.Lanes.WholeRun.{open_probe}
 use Rattle.ep_claim.specs.Text.TraceLine.{TraceLine, trace_text}
 use Rattle.law_documents.specs.Traced.{with_trace}
 use Rattle.law_documents.proofs.Tracing.{written_traces_are_read_law}
-use Rattle.lane_run.specs.OwnTrace.{own_lines, own_run, talks_of_lanes}
+use Rattle.lane_run.specs.OwnTrace.{own_run, talks_of_lanes}
 use Rattle.lane_run.specs.ReportLines.{without_log}
 use Rattle.lane_run.proofs.Matching.{own_trace_law}
 use Rattle.lane_run.proofs.Telling.{runs_tell_traces_law}
@@ -29,7 +27,6 @@ use Rattle.ep_program.specs.Input.{Gives, IsInput, Refuses}
 use Rattle.ep_program.specs.OwnReplay.{AnswersByRun, AnswersOwn, IsOwnTrace, ReplaysOwnTrace, ReplaysRecorded}
 use Rattle.ep_program.specs.Replay.{GivesTrace, Replays, WritesReplay, WritesReplayPart, replay_plan, trace_lines}
 use Rattle.ep_program.specs.RunTrace.{exchanges_in}
-use Rattle.ep_program.specs.Serve.{IsTextOf}
 use Rattle.ep_program.specs.declared.status.Status.{Status}
 use Rattle.ep_program.specs.declared.status.Status.TheVariants.{Done, ReadFault, WriteFault, NoMemory, Usage, TooLong, NotToml, BadDocument, Mismatch}
 use Rattle.ep_program.proofs.Ready.{exchanges_held, is_ready, is_text}
@@ -133,12 +130,11 @@ module _ (bytes : List ℕ) (before after : Option (List ℕ)) (p : Plan) (lines
       cc clash
 
   by_run : (status : Status) → Replays (Some bytes) before after status → AnswersByRun (scenario_of p) before after status
-  by_run status r =
-      (
-        text,
-        is_text open_probe false (scenario_of p) tt text tt (is_ready gives.0 p gives.1 (accepted_plan gives.0 p gives.1)) (has_run (scenario_of p) lines own),
-        answers status r,
-      )
+  by_run status r = (
+    text,
+    is_text open_probe false (scenario_of p) tt text tt (is_ready gives.0 p gives.1 (accepted_plan gives.0 p gives.1)) (has_run (scenario_of p) lines own),
+    answers status r,
+  )
 
 -- A replay of a document's own trace is answered by the document's run.
 pub own_replay : (input before after : Option (List ℕ)) (status : Status) → Replays input before after status → ReplaysOwnTrace input before after status

@@ -1,5 +1,5 @@
 -- The trace lines of a run of transactions that may begin, and are made of bytes.
-use Rattle.std.proofs.Common.{◌≡◌, ℕ, zero, suc, ◌≤◌, Bool, true, false, List, [], ◌∷◌, ◌++◌, length, map, refl, sym, ap, subst, ◌∙◌, Option, Some, None}
+use Rattle.std.proofs.Common.{◌≡◌, ℕ, zero, suc, ◌≤◌, Bool, true, false, List, [], ◌∷◌, ◌++◌, length, map, refl, ap, subst, ◌∙◌, Option, Some, None}
 use Rattle.std.specs.Prelude.{All}
 use Rattle.std.proofs.lemmas.List.Elements.{All-nil, All-cons, All-append, All-head, All-tail}
 use Rattle.ep_base.specs.declared.limits.TheConstants.{FSDI, LANES}
@@ -37,8 +37,8 @@ use Rattle.ep_program.proofs.Promising.{MayBegin}
 
 module _ (P : TraceLine → Type 0) (traced : Bool) (fsdi : ℕ) (turns : List ℕ) (lanes : List (List Job))
     (each :
-        (n lane : ℕ) (g : Going) (ask : Ask) → (run_after traced open_probe fsdi turns tt lanes n).lanes lane ≡ Some g
-        → asked_by fsdi g.lane.standing.doing ≡ Some ask → P (traced_as lane ask (or_silence (field_answers ask g.lane.field).0))) where
+    (n lane : ℕ) (g : Going) (ask : Ask) → (run_after traced open_probe fsdi turns tt lanes n).lanes lane ≡ Some g
+    → asked_by fsdi g.lane.standing.doing ≡ Some ask → P (traced_as lane ask (or_silence (field_answers ask g.lane.field).0))) where
   abbrev at : ℕ → Run (Unit {0})
   at n = run_after traced open_probe fsdi turns tt lanes n
 

@@ -1,9 +1,8 @@
-use Rattle.std.proofs.Common.{◌≡◌, ◌≤◌, List, length, map, ap, subst, sym, option_map}
+use Rattle.std.proofs.Common.{◌≡◌, ◌≤◌, length, map, ap, subst, sym, option_map}
 use Rattle.std.specs.Prelude.{All}
 use Rattle.std.specs.Option.{ForSome}
 use Rattle.std.proofs.lemmas.List.{length-map}
 use Rattle.ep_base.specs.declared.limits.TheConstants.{TRACE_LINES}
-use Rattle.ep_claim.specs.Text.TraceLine.{TraceLine}
 use Rattle.scenario.specs.Scenario.{Scenario}
 use Rattle.trace_check.specs.Verdicts.{HasLane}
 use Rattle.trace_io.specs.Meaning.{traced_of}

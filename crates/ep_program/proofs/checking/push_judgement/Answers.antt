@@ -1,4 +1,4 @@
-use Rattle.std.proofs.Common.{◌≡◌, ◌∙◌, ap, refl, sym, inl, inr}
+use Rattle.std.proofs.Common.{◌∙◌, ap, refl, sym, inl, inr}
 use Rattle.std.proofs.lemmas.List.{length-map}
 use Rattle.trace_io.specs.Meaning.{traced_of}
 use Rattle.ep_program.specs.Check.{good_text}

@@ -1,4 +1,4 @@
-use Rattle.std.proofs.Common.{◌≤◌, ◌∙◌, List, All, length, map, ap, subst, sym, option_map, Some, None, Ok}
+use Rattle.std.proofs.Common.{◌≤◌, ◌∙◌, List, All, length, map, ap, subst, sym, option_map, Some, None}
 use Rattle.ep_base.specs.declared.limits.TheConstants.{TRANSACTIONS}
 use Rattle.ep_rules.specs.EntryPoint.Kernel.{Scripted}
 use Rattle.ep_claim.specs.Lanes.ReplayRun.{Replaying}
